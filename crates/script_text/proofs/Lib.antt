@@ -11,6 +11,7 @@ pub mod FirstWords
 pub mod Forms
 pub mod ReadForms
 pub mod ValueForms
+pub mod AboutForms
 pub mod Lists
 pub mod Scripts
 pub mod Parsing

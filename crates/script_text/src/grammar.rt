@@ -5,6 +5,7 @@ ghost use Rattle.script_text.specs.Grammar.{HasNo, IsDataWord, IsLineOf, IsNameW
 ghost use Rattle.script_text.specs.Blocks.{Says};
 ghost use Rattle.script_text.specs.Reading.{AreGoodWords, Finds, NamesObject, NamesRange, NamesSize};
 
+use crate::about::{CollWord, ObjectWord, read_about_coll, read_about_object};
 use crate::both::both;
 use crate::change::KeptOp;
 use crate::data::{Data, read_data};
@@ -40,14 +41,6 @@ pub fn read_coll(alloc: Global, word: &[u8]) -> Result<CollName, WordFail>
     }
 }
 
-/// `mkcoll C`: what a line says that has this behind its first word.
-fn read_mkcoll(alloc: Global, rest: &[u8]) -> Result<Said, WordFail>
-    ensures { Finds (IsLineOf (codes "mkcoll" ++ (0x20 ∷ rest.now))) result }
-{
-    let coll = read_coll(alloc, rest)?;
-    Ok(Said::op(alloc, coll, Op::MkColl))
-}
-
 /// The names of a collection and of an object in it, if these words spell them.
 pub fn read_names(alloc: Global, coll: &[u8], object: &[u8]) -> Result<(CollName, Name), WordFail>
     ensures { Finds (λ x. (x.0 ≡ coll.now) × IsCollName coll.now × IsNameWord object.now x.1) result }
@@ -78,48 +71,6 @@ pub fn read_object(alloc: Global, text: &[u8]) -> Result<(CollName, Name), WordF
         return Err(WordFail::NotSpelled);
     };
     read_names(alloc, coll, object)
-}
-
-/// `touch C O`: what a line says that has this behind its first word.
-fn read_touch(alloc: Global, rest: &[u8]) -> Result<Said, WordFail>
-    ensures { Finds (IsLineOf (codes "touch" ++ (0x20 ∷ rest.now))) result }
-{
-    let (coll, object) = read_object(alloc, rest)?;
-    let op = Op::Touch { object };
-    Ok(Said::op(alloc, coll, op))
-}
-
-/// `remove C O`: what a line says that has this behind its first word.
-fn read_remove(alloc: Global, rest: &[u8]) -> Result<Said, WordFail>
-    ensures { Finds (IsLineOf (codes "remove" ++ (0x20 ∷ rest.now))) result }
-{
-    let (coll, object) = read_object(alloc, rest)?;
-    let op = Op::Remove { object };
-    Ok(Said::op(alloc, coll, op))
-}
-
-/// `sum C O`: what a line says that has this behind its first word.
-fn read_sum(alloc: Global, rest: &[u8]) -> Result<Said, WordFail>
-    ensures { Finds (IsLineOf (codes "sum" ++ (0x20 ∷ rest.now))) result }
-{
-    let (coll, object) = read_object(alloc, rest)?;
-    Ok(Said::of(What::Command(Command::Sum { coll, object })))
-}
-
-/// `stat C O`: what a line says that has this behind its first word.
-fn read_stat(alloc: Global, rest: &[u8]) -> Result<Said, WordFail>
-    ensures { Finds (IsLineOf (codes "stat" ++ (0x20 ∷ rest.now))) result }
-{
-    let (coll, object) = read_object(alloc, rest)?;
-    Ok(Said::of(What::Command(Command::Stat { coll, object })))
-}
-
-/// `list C`: what a line says that has this behind its first word.
-fn read_list(alloc: Global, rest: &[u8]) -> Result<Said, WordFail>
-    ensures { Finds (IsLineOf (codes "list" ++ (0x20 ∷ rest.now))) result }
-{
-    let coll = read_coll(alloc, rest)?;
-    Ok(Said::of(What::Command(Command::List { coll })))
 }
 
 /// `C O NUM NUM`: the names of a collection and of an object in it, an offset and a length.
@@ -218,10 +169,10 @@ fn read_words(alloc: Global, word: &[u8], rest: &[u8]) -> Result<Said, WordFail>
     ensures { Finds (IsLineOf (word.now ++ (0x20 ∷ rest.now))) result }
 {
     if is_text(word, b"mkcoll") {
-        return read_mkcoll(alloc, rest);
+        return read_about_coll(alloc, CollWord::MkColl, rest);
     }
     if is_text(word, b"touch") {
-        return read_touch(alloc, rest);
+        return read_about_object(alloc, ObjectWord::Touch, rest);
     }
     if is_text(word, b"write") {
         return read_write(alloc, rest);
@@ -233,19 +184,19 @@ fn read_words(alloc: Global, word: &[u8], rest: &[u8]) -> Result<Said, WordFail>
         return read_truncate(alloc, rest);
     }
     if is_text(word, b"remove") {
-        return read_remove(alloc, rest);
+        return read_about_object(alloc, ObjectWord::Remove, rest);
     }
     if is_text(word, b"read") {
         return read_read(alloc, rest);
     }
     if is_text(word, b"sum") {
-        return read_sum(alloc, rest);
+        return read_about_object(alloc, ObjectWord::Sum, rest);
     }
     if is_text(word, b"stat") {
-        return read_stat(alloc, rest);
+        return read_about_object(alloc, ObjectWord::Stat, rest);
     }
     if is_text(word, b"list") {
-        return read_list(alloc, rest);
+        return read_about_coll(alloc, CollWord::List, rest);
     }
     read_value_words(alloc, word, rest)
 }

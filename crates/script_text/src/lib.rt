@@ -1,6 +1,7 @@
 //! Scripts: the lines of one client, as commands with their line numbers; and names as scripts spell them.
 #![tactic(auto)]
 
+mod about;
 mod both;
 mod change;
 mod data;

@@ -3,6 +3,9 @@ ghost use Rattle.std.specs.Prelude.{◌++◌, ◌∷◌, codes};
 ghost use Rattle.script_text.specs.Grammar.{HasNo, IsLineOf, IsNameWord};
 ghost use Rattle.script_text.specs.Reading.{Finds, IsLaterWord, NamesAttr, NamesHeader, NamesKeyRange, NamesKeys, NamesPairs, NamesValue};
 
+use crate::about::{
+    CollWord, ObjectWord, ValueWord, read_about_coll, read_about_object, read_about_value,
+};
 use crate::both::both;
 use crate::change::KeptOp;
 use crate::data::Data;
@@ -18,7 +21,7 @@ use std::alloc::Global;
 use unit_fields::{CollName, Name};
 
 /// `C O NAME`: the names of a collection, of an object in it and of a value of that.
-fn read_value(alloc: Global, text: &[u8]) -> Result<((CollName, Name), Name), WordFail>
+pub fn read_value(alloc: Global, text: &[u8]) -> Result<((CollName, Name), Name), WordFail>
     ensures { Finds (λ x. NamesValue text.now x.0.0 x.0.1 x.1) result }
 {
     let Some((coll, object, name)) = three_words(text) else {
@@ -93,14 +96,6 @@ fn read_pair_list(
     both(names, read_pairs(alloc, rest))
 }
 
-/// `rmcoll C`: what a line says that has this behind its first word.
-fn read_rmcoll(alloc: Global, rest: &[u8]) -> Result<Said, WordFail>
-    ensures { Finds (IsLineOf (codes "rmcoll" ++ (0x20 ∷ rest.now))) result }
-{
-    let coll = read_coll(alloc, rest)?;
-    Ok(Said::op(alloc, coll, Op::RmColl))
-}
-
 /// `setattr C O NAME DATA`: what a line says that has this behind its first word.
 fn read_setattr(alloc: Global, rest: &[u8]) -> Result<Said, WordFail>
     ensures { Finds (IsLineOf (codes "setattr" ++ (0x20 ∷ rest.now))) result }
@@ -108,24 +103,6 @@ fn read_setattr(alloc: Global, rest: &[u8]) -> Result<Said, WordFail>
     let ((coll, object), pair) = read_attr(alloc, rest)?;
     let op = KeptOp::set_attr(object, pair);
     Ok(Said::kept_op(alloc, coll, op))
-}
-
-/// `rmattr C O NAME`: what a line says that has this behind its first word.
-fn read_rmattr(alloc: Global, rest: &[u8]) -> Result<Said, WordFail>
-    ensures { Finds (IsLineOf (codes "rmattr" ++ (0x20 ∷ rest.now))) result }
-{
-    let ((coll, object), name) = read_value(alloc, rest)?;
-    let op = Op::RmAttr { object, name };
-    Ok(Said::op(alloc, coll, op))
-}
-
-/// `rmattrs C O`: what a line says that has this behind its first word.
-fn read_rmattrs(alloc: Global, rest: &[u8]) -> Result<Said, WordFail>
-    ensures { Finds (IsLineOf (codes "rmattrs" ++ (0x20 ∷ rest.now))) result }
-{
-    let (coll, object) = read_object(alloc, rest)?;
-    let op = Op::RmAttrs { object };
-    Ok(Said::op(alloc, coll, op))
 }
 
 /// `omapset C O NAME DATA ..`: what a line says that has this behind its first word.
@@ -159,15 +136,6 @@ fn read_omaprmrange(alloc: Global, rest: &[u8]) -> Result<Said, WordFail>
     Ok(Said::op(alloc, coll, op))
 }
 
-/// `omapclear C O`: what a line says that has this behind its first word.
-fn read_omapclear(alloc: Global, rest: &[u8]) -> Result<Said, WordFail>
-    ensures { Finds (IsLineOf (codes "omapclear" ++ (0x20 ∷ rest.now))) result }
-{
-    let (coll, object) = read_object(alloc, rest)?;
-    let op = Op::OmapClear { object };
-    Ok(Said::op(alloc, coll, op))
-}
-
 /// `omapheader C O DATA`: what a line says that has this behind its first word.
 fn read_omapheader(alloc: Global, rest: &[u8]) -> Result<Said, WordFail>
     ensures { Finds (IsLineOf (codes "omapheader" ++ (0x20 ∷ rest.now))) result }
@@ -177,30 +145,6 @@ fn read_omapheader(alloc: Global, rest: &[u8]) -> Result<Said, WordFail>
     Ok(Said::kept_op(alloc, coll, op))
 }
 
-/// `getattr C O NAME`: what a line says that has this behind its first word.
-fn read_getattr(alloc: Global, rest: &[u8]) -> Result<Said, WordFail>
-    ensures { Finds (IsLineOf (codes "getattr" ++ (0x20 ∷ rest.now))) result }
-{
-    let ((coll, object), name) = read_value(alloc, rest)?;
-    Ok(Said::of(What::Command(Command::GetAttr { coll, object, name })))
-}
-
-/// `omapget C O NAME`: what a line says that has this behind its first word.
-fn read_omapget(alloc: Global, rest: &[u8]) -> Result<Said, WordFail>
-    ensures { Finds (IsLineOf (codes "omapget" ++ (0x20 ∷ rest.now))) result }
-{
-    let ((coll, object), key) = read_value(alloc, rest)?;
-    Ok(Said::of(What::Command(Command::OmapGet { coll, object, key })))
-}
-
-/// `omaphdr C O`: what a line says that has this behind its first word.
-fn read_omaphdr(alloc: Global, rest: &[u8]) -> Result<Said, WordFail>
-    ensures { Finds (IsLineOf (codes "omaphdr" ++ (0x20 ∷ rest.now))) result }
-{
-    let (coll, object) = read_object(alloc, rest)?;
-    Ok(Said::of(What::Command(Command::OmapHeader { coll, object })))
-}
-
 /// What a line of several words says that begins with a word of attributes, of omaps or of a collection that goes.
 pub fn read_value_words(alloc: Global, word: &[u8], rest: &[u8]) -> Result<Said, WordFail>
     requires one { HasNo 0x20 word.now }
@@ -208,16 +152,16 @@ pub fn read_value_words(alloc: Global, word: &[u8], rest: &[u8]) -> Result<Said,
     ensures { Finds (IsLineOf (word.now ++ (0x20 ∷ rest.now))) result }
 {
     if is_text(word, b"rmcoll") {
-        return read_rmcoll(alloc, rest);
+        return read_about_coll(alloc, CollWord::RmColl, rest);
     }
     if is_text(word, b"setattr") {
         return read_setattr(alloc, rest);
     }
     if is_text(word, b"rmattr") {
-        return read_rmattr(alloc, rest);
+        return read_about_value(alloc, ValueWord::RmAttr, rest);
     }
     if is_text(word, b"rmattrs") {
-        return read_rmattrs(alloc, rest);
+        return read_about_object(alloc, ObjectWord::RmAttrs, rest);
     }
     if is_text(word, b"omapset") {
         return read_omapset(alloc, rest);
@@ -229,19 +173,19 @@ pub fn read_value_words(alloc: Global, word: &[u8], rest: &[u8]) -> Result<Said,
         return read_omaprmrange(alloc, rest);
     }
     if is_text(word, b"omapclear") {
-        return read_omapclear(alloc, rest);
+        return read_about_object(alloc, ObjectWord::OmapClear, rest);
     }
     if is_text(word, b"omapheader") {
         return read_omapheader(alloc, rest);
     }
     if is_text(word, b"getattr") {
-        return read_getattr(alloc, rest);
+        return read_about_value(alloc, ValueWord::GetAttr, rest);
     }
     if is_text(word, b"omapget") {
-        return read_omapget(alloc, rest);
+        return read_about_value(alloc, ValueWord::OmapGet, rest);
     }
     if is_text(word, b"omaphdr") {
-        return read_omaphdr(alloc, rest);
+        return read_about_object(alloc, ObjectWord::OmapHdr, rest);
     }
     Err(WordFail::NotSpelled)
 }

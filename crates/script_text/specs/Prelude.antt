@@ -5,5 +5,5 @@ pub use Rattle.script_text.specs.Kept.{IsNoChange}
 pub use Rattle.script_text.specs.Blocks.{command_limit, Says, EachSays, Parse, start, one_more, counted, ends_in_wait, kept_behind, with_line, with_block, with_ended, together, after}
 unfoldable pub use Rattle.script_text.specs.Blocks.{outside, inside, next}
 pub use Rattle.script_text.specs.Script.{script_limit, line_limit, onto, lines_of, ended, commands, AreGood, IsScript, IsOutside, IsMisplaced, IsPastLimit, IsBad, IsBadLine, IsUnended, IsBadAt, IsTextOf}
-pub use Rattle.script_text.specs.Reading.{IsPlainNumber, Finds, AreGoodWords, NamesObject, NamesRange, NamesSize, HasArgs, NamesValue, NamesHeader, NamesAttr, NamesKeyRange, NamesKeys, NamesPairs, SpellsKeys, SpellsPairs, SpellsPair, StandBefore, IsLaterWord, Becomes, IsBadBehind, Ends, IsWithin, IsAfter, Takes, HasTaken, IsReadFrom, EndsBy, WasReadUpTo, IsReadingOn, WasRead, IfLine, AreAllGood, IsAtEnd}
+pub use Rattle.script_text.specs.Reading.{IsPlainNumber, Finds, AreGoodWords, NamesObject, NamesRange, NamesSize, HasArgs, NamesValue, NamesHeader, NamesAttr, NamesKeyRange, NamesKeys, NamesPairs, SpellsKeys, SpellsPairs, SpellsPair, StandBefore, IsOtherThanWhole, IsLaterWord, Becomes, IsBadBehind, Ends, IsWithin, IsAfter, Takes, HasTaken, IsReadFrom, EndsBy, WasReadUpTo, IsReadingOn, WasRead, IfLine, AreAllGood, IsAtEnd}
 pub use Rattle.script_text.specs.About.{coll_word, coll_says, object_word, object_says, value_word, value_says}

@@ -4,9 +4,13 @@ use Rattle.std.specs.List.{AllByRecursion}
 use Rattle.unit_fields.specs.Prelude.{IsCollName}
 use Rattle.object_model.specs.declared.op.Pair.{Pair}
 use Rattle.script_text.specs.Grammar.{HasNo, in_words, IsNameWord, IsDataWord, AreRangeArgs, AreSizeArgs, AreNameArgs, AreDataArgs, AreAttrArgs, AreKeyRangeArgs, AreKeysArgs, ArePairsArgs, AreKeyWords, ArePairWords, AreWordsOf, FitsWhat}
+use Rattle.script_text.specs.About.{coll_word, object_word, value_word}
 use Rattle.script_text.specs.Blocks.{Says, Parse}
 use Rattle.script_text.specs.Script.{script_limit, line_limit, lines_of, ended}
 use Rattle.script_text.specs.Script.{AreGood, IsOutside, IsMisplaced, IsBadAt, IsTextOf}
+use Rattle.script_text.specs.declared.about.CollWord.{CollWord}
+use Rattle.script_text.specs.declared.about.ObjectWord.{ObjectWord}
+use Rattle.script_text.specs.declared.about.ValueWord.{ValueWord}
 use Rattle.script_text.specs.declared.fail.ScriptFail.{ScriptFail}
 use Rattle.script_text.specs.declared.fail.ScriptFail.TheVariants as fail
 use Rattle.script_text.specs.declared.fail.WordFail.{WordFail}
@@ -107,18 +111,19 @@ pub record StandBefore (text first second rest : List ℕ) : Type 0 where
   pub second_word : HasNo 0x20 second
   pub whole : text ≡ first ++ (0x20 ∷ (second ++ (0x20 ∷ rest)))
 
--- the word begins no line about an object as a whole, its bytes, or a collection that is made or listed
-pub record IsLaterWord (word : List ℕ) : Type 0 where
-  pub no_mkcoll : word ≢ codes "mkcoll"
-  pub no_touch : word ≢ codes "touch"
+-- the word is neither `write` or `read` nor one about a collection or an object as a whole
+pub record IsOtherThanWhole (word : List ℕ) : Type 0 where
   pub no_write : word ≢ codes "write"
+  pub no_read : word ≢ codes "read"
+  pub no_object : (w : ObjectWord) → word ≢ object_word w
+  pub no_coll : (w : CollWord) → word ≢ coll_word w
+
+-- nor is it of bytes that are zeros or cut off, nor about one value
+pub record IsLaterWord (word : List ℕ) : Type 0 where
+  pub other : IsOtherThanWhole word
   pub no_zero : word ≢ codes "zero"
   pub no_truncate : word ≢ codes "truncate"
-  pub no_remove : word ≢ codes "remove"
-  pub no_read : word ≢ codes "read"
-  pub no_sum : word ≢ codes "sum"
-  pub no_stat : word ≢ codes "stat"
-  pub no_list : word ≢ codes "list"
+  pub no_value : (w : ValueWord) → word ≢ value_word w
 
 -- where something fits, this is what is there now
 abbrev pub Becomes : Option Parse → Bool → Parse → Type 0

@@ -1,11 +1,15 @@
 //! Lines that say what is done about a collection, an object as a whole or a value of it, and nothing more: their first word tells it.
-ghost use Rattle.std.specs.Prelude.{◌≡◌, ◌++◌, ◌∷◌};
+ghost use Rattle.std.specs.Prelude.{◌≡◌, ◌≢◌, ◌++◌, ◌∷◌, MatchOption};
+ghost use Rattle.script_text.specs.declared.about.CollWord.{CollWord};
+ghost use Rattle.script_text.specs.declared.about.ObjectWord.{ObjectWord};
+ghost use Rattle.script_text.specs.declared.about.ValueWord.{ValueWord};
 ghost use Rattle.script_text.specs.Grammar.{IsLineOf};
 ghost use Rattle.script_text.specs.About.{coll_word, coll_says, object_word, object_says, value_word, value_says};
 ghost use Rattle.script_text.specs.Reading.{Finds};
 
 use crate::fail::WordFail;
 use crate::grammar::{read_coll, read_object};
+use crate::split::is_text;
 use crate::values::read_value;
 use crate::{Said, What};
 use object_model::{Command, Op};
@@ -18,6 +22,21 @@ pub enum CollWord {
     MkColl,
     RmColl,
     List,
+}
+
+/// The first word of a line that has `C` behind it.
+pub fn read_coll_word(text: &[u8]) -> Option<CollWord>
+    ensures { MatchOption result ((w : CollWord) → text.now ≢ coll_word w) (λ w. text.now ≡ coll_word w) }
+{
+    if is_text(text, b"mkcoll") {
+        Some(CollWord::MkColl)
+    } else if is_text(text, b"rmcoll") {
+        Some(CollWord::RmColl)
+    } else if is_text(text, b"list") {
+        Some(CollWord::List)
+    } else {
+        None
+    }
 }
 
 /// What a line says by this word about a collection.
@@ -51,6 +70,29 @@ pub enum ObjectWord {
     OmapHdr,
 }
 
+/// The first word of a line that has `C O` behind it.
+pub fn read_object_word(text: &[u8]) -> Option<ObjectWord>
+    ensures { MatchOption result ((w : ObjectWord) → text.now ≢ object_word w) (λ w. text.now ≡ object_word w) }
+{
+    if is_text(text, b"touch") {
+        Some(ObjectWord::Touch)
+    } else if is_text(text, b"remove") {
+        Some(ObjectWord::Remove)
+    } else if is_text(text, b"rmattrs") {
+        Some(ObjectWord::RmAttrs)
+    } else if is_text(text, b"omapclear") {
+        Some(ObjectWord::OmapClear)
+    } else if is_text(text, b"sum") {
+        Some(ObjectWord::Sum)
+    } else if is_text(text, b"stat") {
+        Some(ObjectWord::Stat)
+    } else if is_text(text, b"omaphdr") {
+        Some(ObjectWord::OmapHdr)
+    } else {
+        None
+    }
+}
+
 /// What a line says by this word about an object.
 fn said_of_object(alloc: Global, word: ObjectWord, coll: CollName, object: Name) -> Said
     ensures { result ≡ object_says word coll object }
@@ -82,14 +124,23 @@ pub enum ValueWord {
     OmapGet,
 }
 
+/// The first word of a line that has `C O NAME` behind it.
+pub fn read_value_word(text: &[u8]) -> Option<ValueWord>
+    ensures { MatchOption result ((w : ValueWord) → text.now ≢ value_word w) (λ w. text.now ≡ value_word w) }
+{
+    if is_text(text, b"rmattr") {
+        Some(ValueWord::RmAttr)
+    } else if is_text(text, b"getattr") {
+        Some(ValueWord::GetAttr)
+    } else if is_text(text, b"omapget") {
+        Some(ValueWord::OmapGet)
+    } else {
+        None
+    }
+}
+
 /// What a line says by this word about a value of an object.
-fn said_of_value(
-    alloc: Global,
-    word: ValueWord,
-    coll: CollName,
-    object: Name,
-    name: Name,
-) -> Said
+fn said_of_value(alloc: Global, word: ValueWord, coll: CollName, object: Name, name: Name) -> Said
     ensures { result ≡ value_says word coll object name }
 {
     match word {

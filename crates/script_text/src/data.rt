@@ -1,6 +1,6 @@
 //! Data as it is spelled.
 ghost use Rattle.std.specs.Prelude.{◌≡◌, ℕ, List, replicate, IfOk, MatchOption};
-ghost use Rattle.script_text.specs.Grammar.{EachIsByte, hex_pair, spelled_by, IsDataWord, IsFill};
+ghost use Rattle.script_text.specs.Grammar.{IsDataWord, IsFill};
 ghost use Rattle.script_text.specs.Reading.{Finds};
 
 use crate::fail::WordFail;
@@ -39,7 +39,7 @@ impl Model for Data {
 
 impl Data {
     /// The bytes that digits spell.
-    fn hex(bytes: Bytes) -> Data
+    pub fn hex(bytes: Bytes) -> Data
         ensures { result ≡ bytes }
     {
         Data {
@@ -92,20 +92,12 @@ fn read_fill(text: &[u8]) -> Option<(u8, u64)>
     Some((byte, count))
 }
 
-/// The data that digits spell.
-fn read_digits(alloc: Global, digits: &[u8]) -> Result<Data, WordFail>
-    ensures { Finds (λ bytes. EachIsByte bytes × (digits.now ≡ spelled_by (hex_pair 0x61) bytes)) result }
-{
-    let bytes = read_hex(alloc, digits)?;
-    Ok(Data::hex(bytes))
-}
-
 /// The data that a word spells.
 pub fn read_data(alloc: Global, word: &[u8]) -> Result<Data, WordFail>
     ensures { Finds (IsDataWord word.now) result }
 {
     if let Some(digits) = split_front(word, b"hex:") {
-        return read_digits(alloc, digits);
+        return read_hex(alloc, digits);
     }
     let Some(text) = split_front(word, b"fill:") else {
         return Err(WordFail::NotSpelled);

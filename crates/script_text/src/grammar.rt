@@ -3,9 +3,12 @@ ghost use Rattle.std.specs.Prelude.{◌≡◌, ◌↔◌, ◌++◌, ◌∷◌, [
 ghost use Rattle.unit_fields.specs.Prelude.{IsCollName};
 ghost use Rattle.script_text.specs.Grammar.{HasNo, IsDataWord, IsLineOf, IsNameWord, IsPassedOver};
 ghost use Rattle.script_text.specs.Blocks.{Says};
-ghost use Rattle.script_text.specs.Reading.{AreGoodWords, Finds, NamesObject, NamesRange, NamesSize};
+ghost use Rattle.script_text.specs.Reading.{AreGoodWords, Finds, IsOtherThanWhole, NamesObject, NamesRange, NamesSize};
 
-use crate::about::{CollWord, ObjectWord, read_about_coll, read_about_object};
+use crate::about::{
+    read_about_coll, read_about_object, read_about_value, read_coll_word, read_object_word,
+    read_value_word,
+};
 use crate::both::both;
 use crate::change::KeptOp;
 use crate::data::{Data, read_data};
@@ -168,35 +171,35 @@ fn read_words(alloc: Global, word: &[u8], rest: &[u8]) -> Result<Said, WordFail>
     requires { HasNo 0x20 word.now }
     ensures { Finds (IsLineOf (word.now ++ (0x20 ∷ rest.now))) result }
 {
-    if is_text(word, b"mkcoll") {
-        return read_about_coll(alloc, CollWord::MkColl, rest);
-    }
-    if is_text(word, b"touch") {
-        return read_about_object(alloc, ObjectWord::Touch, rest);
-    }
     if is_text(word, b"write") {
         return read_write(alloc, rest);
     }
+    if is_text(word, b"read") {
+        return read_read(alloc, rest);
+    }
+    if let Some(word) = read_object_word(word) {
+        return read_about_object(alloc, word, rest);
+    }
+    if let Some(word) = read_coll_word(word) {
+        return read_about_coll(alloc, word, rest);
+    }
+    read_other_words(alloc, word, rest)
+}
+
+/// What a line says that begins with neither `read` or `write` nor a word about a collection or an object as a whole.
+fn read_other_words(alloc: Global, word: &[u8], rest: &[u8]) -> Result<Said, WordFail>
+    requires one { HasNo 0x20 word.now }
+    requires other { IsOtherThanWhole word.now }
+    ensures { Finds (IsLineOf (word.now ++ (0x20 ∷ rest.now))) result }
+{
     if is_text(word, b"zero") {
         return read_zero(alloc, rest);
     }
     if is_text(word, b"truncate") {
         return read_truncate(alloc, rest);
     }
-    if is_text(word, b"remove") {
-        return read_about_object(alloc, ObjectWord::Remove, rest);
-    }
-    if is_text(word, b"read") {
-        return read_read(alloc, rest);
-    }
-    if is_text(word, b"sum") {
-        return read_about_object(alloc, ObjectWord::Sum, rest);
-    }
-    if is_text(word, b"stat") {
-        return read_about_object(alloc, ObjectWord::Stat, rest);
-    }
-    if is_text(word, b"list") {
-        return read_about_coll(alloc, CollWord::List, rest);
+    if let Some(word) = read_value_word(word) {
+        return read_about_value(alloc, word, rest);
     }
     read_value_words(alloc, word, rest)
 }

@@ -3,6 +3,7 @@ ghost use Rattle.std.specs.Prelude.{◌≡◌, ◌≢◌, ◌++◌, ◌<◌, ◌
 ghost use Rattle.script_text.specs.Grammar.{EachIsByte, hex_digit_from, hex_pair, spelled_by};
 ghost use Rattle.script_text.specs.Reading.{Finds};
 
+use crate::data::Data;
 use crate::fail::WordFail;
 use crate::split::split_first;
 use byte_maps::Bytes;
@@ -43,8 +44,8 @@ pub fn split_pair(ten: u8, text: &[u8]) -> Option<(u8, &[u8])>
     Some((16 * high + low, rest))
 }
 
-/// The bytes that pairs of digits with small letters spell.
-pub fn read_hex(alloc: Global, digits: &[u8]) -> Result<Bytes, WordFail>
+/// The data that pairs of digits with small letters spell.
+pub fn read_hex(alloc: Global, digits: &[u8]) -> Result<Data, WordFail>
     ensures { Finds (λ bytes. EachIsByte bytes × (digits.now ≡ spelled_by (hex_pair 0x61) bytes)) result }
 {
     let mut bytes = Vec::with_capacity(alloc, digits.len() / 2)?;
@@ -56,5 +57,5 @@ pub fn read_hex(alloc: Global, digits: &[u8]) -> Result<Bytes, WordFail>
     if !rest.is_empty() {
         return Err(WordFail::NotSpelled);
     }
-    Ok(Bytes::from_vec(bytes))
+    Ok(Data::hex(Bytes::from_vec(bytes)))
 }

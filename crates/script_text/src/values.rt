@@ -3,9 +3,6 @@ ghost use Rattle.std.specs.Prelude.{◌++◌, ◌∷◌, codes};
 ghost use Rattle.script_text.specs.Grammar.{HasNo, IsLineOf, IsNameWord};
 ghost use Rattle.script_text.specs.Reading.{Finds, IsLaterWord, NamesAttr, NamesHeader, NamesKeyRange, NamesKeys, NamesPairs, NamesValue};
 
-use crate::about::{
-    CollWord, ObjectWord, ValueWord, read_about_coll, read_about_object, read_about_value,
-};
 use crate::both::both;
 use crate::change::KeptOp;
 use crate::data::Data;
@@ -145,23 +142,14 @@ fn read_omapheader(alloc: Global, rest: &[u8]) -> Result<Said, WordFail>
     Ok(Said::kept_op(alloc, coll, op))
 }
 
-/// What a line of several words says that begins with a word of attributes, of omaps or of a collection that goes.
+/// What a line says that begins with a word of attributes or of omaps that sets something, or of keys.
 pub fn read_value_words(alloc: Global, word: &[u8], rest: &[u8]) -> Result<Said, WordFail>
     requires one { HasNo 0x20 word.now }
     requires later { IsLaterWord word.now }
     ensures { Finds (IsLineOf (word.now ++ (0x20 ∷ rest.now))) result }
 {
-    if is_text(word, b"rmcoll") {
-        return read_about_coll(alloc, CollWord::RmColl, rest);
-    }
     if is_text(word, b"setattr") {
         return read_setattr(alloc, rest);
-    }
-    if is_text(word, b"rmattr") {
-        return read_about_value(alloc, ValueWord::RmAttr, rest);
-    }
-    if is_text(word, b"rmattrs") {
-        return read_about_object(alloc, ObjectWord::RmAttrs, rest);
     }
     if is_text(word, b"omapset") {
         return read_omapset(alloc, rest);
@@ -172,20 +160,8 @@ pub fn read_value_words(alloc: Global, word: &[u8], rest: &[u8]) -> Result<Said,
     if is_text(word, b"omaprmrange") {
         return read_omaprmrange(alloc, rest);
     }
-    if is_text(word, b"omapclear") {
-        return read_about_object(alloc, ObjectWord::OmapClear, rest);
-    }
     if is_text(word, b"omapheader") {
         return read_omapheader(alloc, rest);
-    }
-    if is_text(word, b"getattr") {
-        return read_about_value(alloc, ValueWord::GetAttr, rest);
-    }
-    if is_text(word, b"omapget") {
-        return read_about_value(alloc, ValueWord::OmapGet, rest);
-    }
-    if is_text(word, b"omaphdr") {
-        return read_about_object(alloc, ObjectWord::OmapHdr, rest);
     }
     Err(WordFail::NotSpelled)
 }

@@ -2,7 +2,7 @@ use Rattle.script_text.proofs.DataWords.{hex_read, fill_behind, data_filled}
 use Rattle.script_text.proofs.data.read_data.Goals as goal
 
 pub returns-in-Some : goal.returns-in-Some
-returns-in-Some c = hex_read c.args.word.now c.in-Some.digits.now c.read_digits.result c.in-Some.ensures c.read_digits.ensures
+returns-in-Some c = hex_read c.args.word.now c.in-Some.digits.now c.read_hex.result c.in-Some.ensures c.read_hex.ensures
 
 pub returns-in_default-read_fill : goal.returns-in_default-read_fill
 returns-in_default-read_fill c same bytes is =

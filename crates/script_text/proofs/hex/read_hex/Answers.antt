@@ -25,4 +25,4 @@ pub returns : goal.returns
 returns c =
     let empty : length c.bytes.rest.now ≡ 0 = search rules in
     let all = read_all (hex_pair 0x61) c.args.digits.now c.bytes.bytes.items c.bytes.rest.now c.bytes.invariant (nil_from_length c.bytes.rest.now empty) in
-    rw c.from_vec.ensures all
+    rw c.hex.ensures (rw c.from_vec.ensures all)

@@ -29,10 +29,12 @@ fn next_piece<S: Source>(source: &mut S, piece: &mut Vec<u8>, most: u32) -> Resu
     Ok(n)
 }
 
-/// Reads until the source ends, or until so many bytes are taken as a script has at most. Whether it ended.
+/// Reads until the source ends, or until so many bytes are taken as a script has at most. Whether it ended. Each piece
+/// lies where the one before it lay.
 fn read_pieces<S: Source>(
     alloc: Global,
     source: &mut S,
+    piece: &mut Vec<u8>,
     reader: &mut Reader,
 ) -> Result<bool, ScriptFail>
     requires nothing { reader.old.count ≡ 0 }
@@ -43,10 +45,9 @@ fn read_pieces<S: Source>(
     ensures cause { IsErrOf result ScriptFail.ReadFault → Rose (S.faults source.old) (S.faults source.new) }
     ensures line { IfErr result (λ e. IfLine e (λ n. ⊥)) }
 {
-    let mut piece = Vec::new(alloc);
     let mut left = SCRIPT_LIMIT;
     'pieces: while left > 0 {
-        let n = next_piece(source, &mut piece, left.min(PIECE_BYTES))?;
+        let n = next_piece(source, piece, left.min(PIECE_BYTES))?;
         if n == 0 {
             return Ok(true);
         }
@@ -60,6 +61,7 @@ fn read_pieces<S: Source>(
 fn read_through<S: Source>(
     alloc: Global,
     source: &mut S,
+    piece: &mut Vec<u8>,
     reader: &mut Reader,
 ) -> Result<(), ScriptFail>
     requires nothing { reader.old.count ≡ 0 }
@@ -71,11 +73,10 @@ fn read_through<S: Source>(
     ensures cause { IsErrOf result ScriptFail.ReadFault → Rose (S.faults source.old) (S.faults source.new) }
     ensures line { IfErr result (λ e. IfLine e (λ n. ⊥)) }
 {
-    if read_pieces(alloc, source, reader)? {
+    if read_pieces(alloc, source, piece, reader)? {
         return Ok(());
     }
-    let mut piece = Vec::new(alloc);
-    let n = next_piece(source, &mut piece, 1)?;
+    let n = next_piece(source, piece, 1)?;
     if n == 0 {
         return Ok(());
     }
@@ -98,7 +99,10 @@ pub fn read_script<S: Source>(alloc: Global, source: &mut S) -> Result<Vec<Line>
     ensures cause { IsErrOf result ScriptFail.ReadFault → Rose (S.faults source.old) (S.faults source.new) }
 {
     let mut reader = Reader::new(alloc);
-    match read_through(alloc, source, &mut reader) {
+    let mut piece = Vec::new(alloc);
+    let read = read_through(alloc, source, &mut piece, &mut reader);
+    drop(piece);
+    match read {
         Ok(()) => reader.finish(alloc),
         Err(e) => {
             drop(reader);

@@ -5,7 +5,7 @@ use Rattle.unit_fields.specs.Prelude.{IsCollName}
 use Rattle.object_model.specs.declared.op.Pair.{Pair}
 use Rattle.script_text.specs.Grammar.{HasNo, in_words, IsNameWord, IsDataWord, AreRangeArgs, AreSizeArgs, AreNameArgs, AreDataArgs, AreAttrArgs, AreKeyRangeArgs, AreKeysArgs, ArePairsArgs, AreKeyWords, ArePairWords, AreWordsOf, FitsWhat}
 use Rattle.script_text.specs.About.{coll_word, object_word, value_word}
-use Rattle.script_text.specs.Blocks.{Says, Parse}
+use Rattle.script_text.specs.Blocks.{Parse}
 use Rattle.script_text.specs.Script.{script_limit, line_limit, lines_of, ended}
 use Rattle.script_text.specs.Script.{AreGood, IsOutside, IsMisplaced, IsBadAt, IsTextOf}
 use Rattle.script_text.specs.declared.about.CollWord.{CollWord}
@@ -15,7 +15,6 @@ use Rattle.script_text.specs.declared.fail.ScriptFail.{ScriptFail}
 use Rattle.script_text.specs.declared.fail.ScriptFail.TheVariants as fail
 use Rattle.script_text.specs.declared.fail.WordFail.{WordFail}
 use Rattle.script_text.specs.declared.fail.WordFail.TheVariants.{NotSpelled}
-use Rattle.script_text.specs.declared.grammar.Statement.{Statement}
 use Rattle.script_text.specs.declared.line.What.{What}
 use Rattle.script_text.specs.declared.reader.Reader.{Reader}
 use Rattle.block_device.specs.declared.device.Failed.{Failed}

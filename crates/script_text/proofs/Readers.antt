@@ -106,6 +106,12 @@ takes_feed old new none empty count ends bytes small after =
     let w = is_within bytes old none after in
     fed bytes old new w small empty count new.bad (ends w.texts old.text.items w.good w.count none w.short refl)
 
+-- the same, where memory may have run out
+pub takes_feed_if_ok : {X E : Type 0} (old new : Reader) (r : Result X E) → old.bad ≡ None → OnOk r (new.text.items ≡ []) → OnOk r (new.count ≡ old.count + 1)
+    → OnOk r (Ends (λ text. text ≡ old.text.items) old new) → OnOk r (Takes (10 ∷ []) old new)
+takes_feed_if_ok old new (Ok x) none empty count ends = takes_feed old new none empty count ends
+takes_feed_if_ok old new (Err e) none empty count ends = empty
+
 -- bytes that make the line too long
 pub too_long : (bytes piece : List ℕ) (r : Reader) → r.bad ≡ None → HasNo 10 piece → line_limit < length r.text.items + length piece → IsAfter bytes r
     → (more : List ℕ) → IsBadAt (bytes ++ piece ++ more) (r.count + 1)
@@ -242,3 +248,9 @@ script_of bytes r lines good ended said = record {
 pub unended_at : (bytes : List ℕ) (r : Reader) (n : ℕ) → AreAllGood bytes r → IsSome r.parser.block → n ≡ r.count + 1 → IsBadAt bytes n
 unended_at bytes r n good unended number =
     inr (record { parse = r.parser; good = good.good; unended = unended; small = good.small; number = omega (arith, number, good.count) })
+
+-- the last line ends, where memory may have run out
+pub done_last_if_ok : {X E : Type 0} (old new : Reader) (r : Result X E) → old.bad ≡ None → old.text.items ≢ [] → OnOk r (new.count ≡ old.count + 1)
+    → OnOk r (Ends (λ text. text ≡ old.text.items) old new) → OnOk r ((bytes : List ℕ) → IsAfter bytes old → IsAtEnd bytes new)
+done_last_if_ok old new (Ok x) none some count ends = λ bytes. done_last bytes old new none some count ends
+done_last_if_ok old new (Err e) none some count ends = count

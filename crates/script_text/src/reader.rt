@@ -83,8 +83,7 @@ impl Reader {
         if self.bad.is_some() {
             return Ok(());
         }
-        self.end_line(alloc)?;
-        Ok(())
+        self.end_line(alloc)
     }
 
     /// Takes bytes without a line feed.
@@ -144,8 +143,7 @@ impl Reader {
         if self.bad.is_some() || self.text.is_empty() {
             return Ok(());
         }
-        self.end_line(alloc)?;
-        Ok(())
+        self.end_line(alloc)
     }
 
     /// The commands and `wait`s of the whole script, or its first bad line.

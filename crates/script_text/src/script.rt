@@ -25,8 +25,7 @@ fn next_piece<S: Source>(source: &mut S, piece: &mut Vec<u8>, most: u32) -> Resu
     ensures line { IfErr result (λ e. IfLine e (λ n. ⊥)) }
 {
     piece.clear();
-    let n = source.read(piece, most)?;
-    Ok(n)
+    source.read(piece, most).map_err(ScriptFail::from)
 }
 
 /// Reads until the source ends, or until so many bytes are taken as a script has at most. Whether it ended. Each piece

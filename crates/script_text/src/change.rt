@@ -136,7 +136,7 @@ fn shared(alloc: Global, spelled: Data) -> Result<SharedBytes, AllocError>
 {
     let bytes = spelled.into_bytes(alloc)?;
     let bytes = bytes.into_vec(alloc)?;
-    Ok(SharedBytes::from_vec(bytes)?)
+    SharedBytes::from_vec(bytes).map_err(AllocError::from)
 }
 
 /// Moves operations behind others.

@@ -108,8 +108,7 @@ impl Parser {
             drop(line);
             return Ok(());
         }
-        self.lines.push(line)?;
-        Ok(())
+        self.lines.push(line).map_err(AllocError::from)
     }
 
     /// Takes a line outside of a block.

@@ -24,7 +24,7 @@ pub enum CollWord {
     List,
 }
 
-/// The first word of a line that has `C` behind it.
+/// Which of these words a text is, if it is one of them.
 pub fn read_coll_word(text: &[u8]) -> Option<CollWord>
     ensures { MatchOption result ((w : CollWord) → text.now ≢ coll_word w) (λ w. text.now ≡ coll_word w) }
 {
@@ -70,7 +70,7 @@ pub enum ObjectWord {
     OmapHdr,
 }
 
-/// The first word of a line that has `C O` behind it.
+/// Which of these words a text is, if it is one of them.
 pub fn read_object_word(text: &[u8]) -> Option<ObjectWord>
     ensures { MatchOption result ((w : ObjectWord) → text.now ≢ object_word w) (λ w. text.now ≡ object_word w) }
 {
@@ -124,7 +124,7 @@ pub enum ValueWord {
     OmapGet,
 }
 
-/// The first word of a line that has `C O NAME` behind it.
+/// Which of these words a text is, if it is one of them.
 pub fn read_value_word(text: &[u8]) -> Option<ValueWord>
     ensures { MatchOption result ((w : ValueWord) → text.now ≢ value_word w) (λ w. text.now ≡ value_word w) }
 {

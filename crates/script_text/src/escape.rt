@@ -82,7 +82,7 @@ fn name_of(alloc: Global, bytes: &[u8]) -> Result<Name, WordFail>
     }
 }
 
-/// The name that a word spells. Most words are their names: such a one is not written anew.
+/// The name that a word spells. Where each byte stands for itself the word is the name, and isn't written out first.
 pub fn read_name(alloc: Global, word: &[u8]) -> Result<Name, WordFail>
     ensures { Finds (IsNameWord word.now) result }
 {

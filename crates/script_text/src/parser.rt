@@ -198,7 +198,7 @@ impl Parser {
         Ok(true)
     }
 
-    /// Takes a line of the block that isn't ended.
+    /// Takes a line of the block that isn't ended. Blocks are rare: kept apart, their copies cost other lines nothing.
     #[inline(never)]
     fn take_in_block(&mut self, statement: Statement) -> Result<bool, AllocError>
         requires { IsSome self.old.block }

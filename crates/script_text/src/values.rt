@@ -1,4 +1,4 @@
-//! What the lines about attributes, omaps and collections that go say.
+//! What the lines about attributes and omaps say.
 ghost use Rattle.std.specs.Prelude.{◌++◌, ◌∷◌, codes};
 ghost use Rattle.script_text.specs.Grammar.{HasNo, IsLineOf, IsNameWord};
 ghost use Rattle.script_text.specs.Reading.{Finds, IsLaterWord, NamesAttr, NamesHeader, NamesKeyRange, NamesKeys, NamesPairs, NamesValue};
@@ -142,7 +142,7 @@ fn read_omapheader(alloc: Global, rest: &[u8]) -> Result<Said, WordFail>
     Ok(Said::kept_op(alloc, coll, op))
 }
 
-/// What a line says that begins with a word of attributes or of omaps that sets something, or of keys.
+/// What a line says that begins with `setattr` or with a word of an omap that sets pairs or a header or removes keys.
 pub fn read_value_words(alloc: Global, word: &[u8], rest: &[u8]) -> Result<Said, WordFail>
     requires one { HasNo 0x20 word.now }
     requires later { IsLaterWord word.now }

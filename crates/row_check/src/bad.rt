@@ -61,9 +61,17 @@ pub fn find_bad_row(
 {
     let mut last = None;
     for (key, value) in rows.range(b"", None) {
-        let found = good_row(alloc, sup, rows, &last, key.as_slice(), value.as_slice())?;
+        let found = match good_row(alloc, sup, rows, &last, key.as_slice(), value.as_slice()) {
+            Ok(found) => found,
+            Err(full) => {
+                drop(last);
+                return Err(full);
+            }
+        };
         let Some(row) = found else {
-            return Ok(Some(Bytes::from_slice(alloc, key.as_slice())?));
+            drop(last);
+            let bad = Bytes::from_slice(alloc, key.as_slice())?;
+            return Ok(Some(bad));
         };
         drop(last.replace(row));
     }

@@ -35,10 +35,10 @@ returns-in_default c =
     let more = left_more es c.loop-key.invariant.at x c.next.new.self (sym c.loop-key.invariant.left ∙ c.in-Some.ensures.steps) in
     let key = c.as_slice.result.now in
     let value = c.as_slice-in-loop-key.result.now in
-    let bad : ¬ (IsGoodRow c.args.sup.now rows key value) = rw c.in_default.is at c.in_ok-found.ensures in
+    let bad : ¬ (IsGoodRow c.args.sup.now rows key value) = rw c.in_default.is at c.in-Ok.ensures in
     let least = step_bad c.args.sup.now rows es are c.loop-key.invariant.at c.loop-key.last c.loop-key.invariant.walked x key value more.0 more.1
     c.as_slice.ensures c.as_slice-in-loop-key.ensures bad in
-    subst (IsLeastBad c.args.sup.now rows) (c.as_slice.ensures ∙ sym c.as_slice-in_default.ensures ∙ sym c.in_ok-from_slice.ensures) least
+    subst (IsLeastBad c.args.sup.now rows) (c.as_slice.ensures ∙ sym c.as_slice-in_default.ensures ∙ sym c.in_ok-bad.ensures) least
 
 pub loop-key-preserved : goal.loop-key-preserved
 loop-key-preserved c =
@@ -50,7 +50,7 @@ loop-key-preserved c =
     let more = left_more es at x c.next.new.self (sym c.loop-key.invariant.left ∙ c.in-Some.ensures.steps) in
     let key = c.as_slice.result.now in
     let value = c.as_slice-in-loop-key.result.now in
-    let good : IsGood c.args.sup.now rows key value c.in-Some-found.row = rw c.in-Some-found.is at c.in_ok-found.ensures in
+    let good : IsGood c.args.sup.now rows key value c.in-Some-found.row = rw c.in-Some-found.is at c.in-Ok.ensures in
     record {
       can_next = tt;
       finite = tt;

@@ -121,19 +121,26 @@ impl<D: Device> Kernel<D> {
     {
         let Kernel {
             device,
-            meta: _,
-            submitted: _,
-            contexts: _,
-            batch: _,
-            buffers: _,
-            flying: _,
+            meta,
+            submitted,
+            contexts,
+            batch,
+            buffers,
+            flying,
             down: _,
             events: _,
-            space: _,
+            space,
             entries,
             commits,
             acked: _,
         } = self;
+        drop(meta);
+        drop(submitted);
+        drop(contexts);
+        drop(batch);
+        drop(buffers);
+        drop(flying);
+        drop(space);
         let book = Book {
             entries: Items::from_vec(entries),
             commits: Items::from_vec(commits),

@@ -140,19 +140,19 @@ impl<D: Device> Kernel<D> {
         };
         match batch.seal(alloc, &mut self.meta) {
             Ok(sealed) => {
-                self.batch = Some(OpenBatch {
+                drop(self.batch.replace(OpenBatch {
                     stage: Stage::Sealed(sealed),
                     first,
                     second,
-                });
+                }));
                 Ok(())
             }
             Err(back) => {
-                self.batch = Some(OpenBatch {
+                drop(self.batch.replace(OpenBatch {
                     stage: Stage::Taken(back),
                     first,
                     second,
-                });
+                }));
                 Err(StepFail::Memory)
             }
         }

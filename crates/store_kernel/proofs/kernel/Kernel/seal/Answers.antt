@@ -22,8 +22,11 @@ invariant_of-self g c =
     let taken : contexts_of c.in-Some.open.stage ≡ c.in-Taken.batch = ap contexts_of c.in-Taken.is in
     let does = seal_does _ _ k.meta c.seal.new.meta c.in-Some.open c.in-Ok.sealed (ap (option_map batch_of) batch) refl
     (c.in-Ok.ensures.begun ∙ ap (λ (xs : List Context). with_begun k.meta (ops_of xs)) (sym taken)) (c.in-Ok.ensures.same ∙ sym taken) in
-    known_step Seal _ _ _ _ _ _ _ _ c.self.invariant ready does c.self.invariant.kept.always.device
-    (sym (ap (λ (m : Meta). is_some m.begun) c.in-Ok.ensures.begun)) (c.self.invariant.memory ∙ sym (seal_memory _ _ _ _ does))
+    subst (λ (o : Option OpenBatch). KnownOfKernel k.buffers o
+    (state_of c.seal.new.meta k.submitted.rows k.contexts o k.flying.items k.down k.events k.space k.entries.items k.commits.items k.acked)
+    (g.D.Device.disk k.device)) (sym c.replace.ensures.after)
+    (known_step Seal _ _ _ _ _ _ _ _ c.self.invariant ready does c.self.invariant.kept.always.device
+    (sym (ap (λ (m : Meta). is_some m.begun) c.in-Ok.ensures.begun)) (c.self.invariant.memory ∙ sym (seal_memory _ _ _ _ does)))
 
 pub invariant_of-self-in-Err : goal.invariant_of-self-in-Err
 invariant_of-self-in-Err g c =
@@ -35,4 +38,4 @@ invariant_of-self-in-Err g c =
     rw c.in-Err.ensures.err
     (subst (λ (o : Option OpenBatch). KnownOfKernel k.buffers o
     (state_of k.meta k.submitted.rows k.contexts o k.flying.items k.down k.events k.space k.entries.items k.commits.items k.acked)
-    (g.D.Device.disk k.device)) same c.self.invariant)
+    (g.D.Device.disk k.device)) (same ∙ sym c.replace-in-Err.ensures.after) c.self.invariant)

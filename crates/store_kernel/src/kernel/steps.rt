@@ -90,11 +90,11 @@ impl<D: Device> Kernel<D> {
             place: batch.queued().place(),
             acked_at: None,
         });
-        self.batch = Some(OpenBatch {
+        drop(self.batch.replace(OpenBatch {
             stage: Stage::Taken(batch),
             first: FlushState::NotSent,
             second: FlushState::NotSent,
-        });
+        }));
         Ok(())
     }
 

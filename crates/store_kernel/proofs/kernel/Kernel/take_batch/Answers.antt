@@ -10,10 +10,10 @@ invariant_of-self-2 g c =
     let kept = c.self.invariant.kept in
     let ready = rw (← c.self.view_is) at c.requires in
     let does = take_does _ _ _ _ _ c.in-Some.ensures c.queued.ensures in
-    rw (c.push_reserved.ensures.items, c.reserve.ensures.items, c.place.ensures)
+    rw (c.push_reserved.ensures.items, c.reserve.ensures.items, c.place.ensures, c.replace.ensures.after)
     (known_step Take _ _ _ _ _ _ _ _ c.self.invariant ready does kept.always.device (none_begun _ _ kept ready)
     (c.self.invariant.memory ∙ sym (take_memory _ _ _ _ kept ready does)))
 
 pub returns-clause-ok : goal.returns-clause-ok
 returns-clause-ok g c =
-    rw (c.push_reserved.ensures.items, c.reserve.ensures.items, c.place.ensures, ← c.self.view_is) (take_does _ _ _ _ _ c.in-Some.ensures c.queued.ensures)
+    rw (c.push_reserved.ensures.items, c.reserve.ensures.items, c.place.ensures, c.replace.ensures.after, ← c.self.view_is) (take_does _ _ _ _ _ c.in-Some.ensures c.queued.ensures)

@@ -90,11 +90,13 @@ impl<D: Device> Kernel<D> {
             place: batch.queued().place(),
             acked_at: None,
         });
-        drop(self.batch.replace(OpenBatch {
-            stage: Stage::Taken(batch),
-            first: FlushState::NotSent,
-            second: FlushState::NotSent,
-        }));
+        drop(
+            self.batch.replace(OpenBatch {
+                stage: Stage::Taken(batch),
+                first: FlushState::NotSent,
+                second: FlushState::NotSent,
+            }),
+        );
         Ok(())
     }
 
@@ -140,19 +142,23 @@ impl<D: Device> Kernel<D> {
         };
         match batch.seal(alloc, &mut self.meta) {
             Ok(sealed) => {
-                drop(self.batch.replace(OpenBatch {
-                    stage: Stage::Sealed(sealed),
-                    first,
-                    second,
-                }));
+                drop(
+                    self.batch.replace(OpenBatch {
+                        stage: Stage::Sealed(sealed),
+                        first,
+                        second,
+                    }),
+                );
                 Ok(())
             }
             Err(back) => {
-                drop(self.batch.replace(OpenBatch {
-                    stage: Stage::Taken(back),
-                    first,
-                    second,
-                }));
+                drop(
+                    self.batch.replace(OpenBatch {
+                        stage: Stage::Taken(back),
+                        first,
+                        second,
+                    }),
+                );
                 Err(StepFail::Memory)
             }
         }

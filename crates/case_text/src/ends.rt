@@ -21,20 +21,22 @@ fn whole_units(alloc: Global, contents: &[u8]) -> Result<Vec<u8>, CaseError>
 
 /// Puts contents that are whole units into a bay.
 fn put_into(alloc: Global, bay: &mut MemoryBay, device: &Named) -> Result<(), CaseError> {
-    let contents = whole_units(alloc, device.bytes.as_slice())?;
-    bay.put_device(device.name.as_str(), contents)
-        .map_err(CaseError::from)
+    match whole_units(alloc, device.bytes.as_slice()) {
+        Ok(contents) => bay
+            .put_device(device.name.as_str(), contents)
+            .map_err(CaseError::from),
+        Err(wrong) => Err(wrong),
+    }
 }
 
 /// The lags, none above 63.
 fn checked_lags(alloc: Global, lags: &[u8]) -> Result<Vec<u8>, CaseError>
     ensures { IfOk result (λ made. All (λ lag. lag ≤ 63) made.items) }
 {
-    let lags = lags.to_vec(alloc)?;
     if !lags.iter().all(|lag| *lag <= 63) {
         return Err(CaseError::Line("a lag above 63"));
     }
-    Ok(lags)
+    lags.to_vec(alloc).map_err(CaseError::from)
 }
 
 impl Setup {
@@ -42,38 +44,47 @@ impl Setup {
     pub fn device(&mut self, name: &str) -> Result<MemoryDevice, CaseError>
         ensures { IfOk result (λ d. (disk_of d).flights ≡ []) }
     {
-        let contents = whole_units(self.alloc, self.bytes(name)?)?;
-        let lags = checked_lags(self.alloc, &self.lags)?;
-        let fails = mem::replace(&mut self.fails.device, Vec::new(self.alloc));
-        MemoryDevice::new(self.alloc, contents, lags, fails).map_err(CaseError::from)
+        match whole_units(self.alloc, self.bytes(name)?) {
+            Ok(contents) => match checked_lags(self.alloc, &self.lags) {
+                Ok(lags) => {
+                    let fails = mem::replace(&mut self.fails.device, Vec::new(self.alloc));
+                    MemoryDevice::new(self.alloc, contents, lags, fails).map_err(CaseError::from)
+                }
+                Err(wrong) => Err(wrong),
+            },
+            Err(wrong) => Err(wrong),
+        }
     }
 
-    /// A bay and a sink of what is set up. The calls that are to fail are those of these alone.
-    pub fn ends(&mut self) -> Result<(MemoryBay, MemorySink), CaseError> {
+    /// A sink of what is set up. The calls that are to fail are those of this one alone.
+    pub fn sink(&mut self) -> Result<MemorySink, CaseError> {
         let step = self.sink_step.max(1);
         let fails = mem::replace(&mut self.fails.sink, Vec::new(self.alloc));
-        let sink = MemorySink::new(self.alloc, self.room, step, fails)?;
-        Ok((self.bay()?, sink))
+        MemorySink::new(self.alloc, self.room, step, fails).map_err(CaseError::from)
     }
 
-    fn bay(&mut self) -> Result<MemoryBay, CaseError> {
-        let lags = checked_lags(self.alloc, &self.lags)?;
+    /// A bay without devices and scripts. The calls that are to fail are those of this one alone.
+    pub fn bay(&mut self) -> Result<MemoryBay, CaseError> {
         let plan = BayPlan {
-            lags,
+            lags: checked_lags(self.alloc, &self.lags)?,
             device_fails: mem::replace(&mut self.fails.device, Vec::new(self.alloc)),
             source_step: self.source_step.max(1),
             source_fails: mem::replace(&mut self.fails.source, Vec::new(self.alloc)),
             fails: mem::replace(&mut self.fails.bay, Vec::new(self.alloc)),
         };
-        let mut bay = MemoryBay::new(self.alloc, plan);
-        self.fill_bay(&mut bay)?;
-        Ok(bay)
+        Ok(MemoryBay::new(self.alloc, plan))
     }
 
-    fn fill_bay(&self, bay: &mut MemoryBay) -> Result<(), CaseError> {
+    /// Puts the devices that are set up into a bay.
+    pub fn put_devices(&self, bay: &mut MemoryBay) -> Result<(), CaseError> {
         for device in &self.devices {
             put_into(self.alloc, bay, device)?;
         }
+        Ok(())
+    }
+
+    /// Puts the scripts that are set up into a bay.
+    pub fn put_scripts(&self, bay: &mut MemoryBay) -> Result<(), CaseError> {
         for script in &self.scripts {
             let text = script.bytes.to_vec(self.alloc)?;
             bay.put_text(script.name.as_str(), text)?;

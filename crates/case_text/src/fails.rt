@@ -69,10 +69,9 @@ impl Fails {
     /// the bay, a read of a `source`, or a write of the `sink`.
     pub fn follow(&mut self, words: Words<'_>) -> Result<(), CaseError> {
         let (what, at) = words.last_two()?;
-        let at = number(at)?;
-        match look_up(&FAILING, what) {
-            Some(what) => self.fail(what, at),
-            None => Err(CaseError::Line("no such call")),
+        match (look_up(&FAILING, what), number(at)) {
+            (Some(what), Ok(at)) => self.fail(what, at),
+            _ => Err(CaseError::Line("no such call")),
         }
     }
 }

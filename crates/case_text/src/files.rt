@@ -14,37 +14,36 @@ pub trait Follow: Drop {
     fn follow(&mut self, line: &str, out: &mut Text) -> Result<(), CaseError>;
 }
 
-/// Follows a line of a text. A line `case WORDS` begins a case with nothing set up; a line that can't be followed is printed with
-/// what is wrong with it.
+/// Follows a line of a text. A line `case WORDS` begins a case with nothing set up.
 fn follow_line<F: Follow>(
     alloc: Global,
     case: &mut F,
     line: &str,
     out: &mut Text,
 ) -> Result<(), CaseError> {
-    if line.starts_with("case ") {
-        drop(mem::replace(case, F::begin(alloc)?));
-        out.println(format_args!("\n{line}"));
-    } else if let Err(wrong) = case.follow(line, out) {
-        out.println(format_args!("{wrong}: {line}"));
+    if !line.starts_with("case ") {
+        return case.follow(line, out);
     }
+    out.println(format_args!("\n{line}"));
+    drop(mem::replace(case, F::begin(alloc)?));
     Ok(())
 }
 
-/// Prints what the cases of a text come to.
-fn follow_all<F: Follow>(alloc: Global, text: &str, out: &mut Text) -> Result<(), CaseError> {
-    let mut case = F::begin(alloc)?;
+/// Prints what the lines of a text come to. A line that can't be followed is printed with what is wrong with it.
+fn follow_lines<F: Follow>(alloc: Global, case: &mut F, text: &str, out: &mut Text) {
     for line in text.lines() {
-        follow_line(alloc, &mut case, line, out)?;
+        if let Err(wrong) = follow_line(alloc, case, line, out) {
+            out.println(format_args!("{wrong}: {line}"));
+        }
     }
-    Ok(())
 }
 
 /// What the file at a path comes to, by the cases of its text.
 fn shown<F: Follow>(alloc: Global, path: &str, text: &str) -> Result<String, CaseError> {
+    let mut case = F::begin(alloc)?;
     let mut out = Text::new(alloc);
     out.println(format_args!("file {path}"));
-    follow_all::<F>(alloc, text, &mut out)?;
+    follow_lines(alloc, &mut case, text, &mut out);
     out.finish()
 }
 

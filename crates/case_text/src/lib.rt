@@ -26,4 +26,4 @@ pub use printing::{print_bytes, print_piece, print_text};
 pub use setup::Setup;
 pub use spelling::Spelling;
 pub use text::Text;
-pub use words::{Words, byte, kind_of, look_up, number, read_hex, small};
+pub use words::{Words, byte, kind_of, look_up, number, read_hex, small, unquoted};

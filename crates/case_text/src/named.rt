@@ -28,6 +28,8 @@ pub fn put(
     bytes: Vec<u8>,
 ) -> Result<(), CaseError> {
     all.retain(|named| named.name.as_str() != name);
-    let name = String::from_str(alloc, name)?;
-    all.push(Named { name, bytes }).map_err(CaseError::from)
+    match String::from_str(alloc, name) {
+        Ok(name) => all.push(Named { name, bytes }).map_err(CaseError::from),
+        Err(_) => Err(CaseError::OutOfMemory),
+    }
 }

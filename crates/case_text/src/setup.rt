@@ -1,9 +1,9 @@
 //! What a case has set up, and the lines that say it.
 
-use crate::contents::{Change, Slot, make_change, spelled_slot};
+use crate::contents::{Change, push_slot};
 use crate::named::{bytes_of, put};
 use crate::spelling::Spelling;
-use crate::words::{Words, kind_of, read_hex};
+use crate::words::{Words, kind_of, read_hex, small};
 use crate::{CaseError, Fails, Named};
 use std::alloc::Global;
 
@@ -62,14 +62,18 @@ static LINE_KINDS: [(&str, LineKind); 18] = [
     ("fail", LineKind::Fail),
 ];
 
-/// A number, or the greatest one of 32 bits where it is greater.
-fn at_most_32_bits(number: u64) -> u32 {
-    u32::try_from(number).unwrap_or(u32::MAX)
-}
-
 /// How many reaps a submission waits, in decimal.
 fn lag_of(word: &str) -> Result<u8, CaseError> {
     word.parse::<u8>().ok().ok_or(CaseError::Line("no lag"))
+}
+
+/// Adds bytes and an end, so many times.
+fn add_repeated(all: &mut Vec<u8>, count: u32, bytes: &[u8], end: &[u8]) -> Result<(), CaseError> {
+    for _ in 0..count {
+        all.extend_from_slice(bytes)?;
+        all.extend_from_slice(end)?;
+    }
+    Ok(())
 }
 
 /// What a case has set up. At first there is no device and no script; submissions wait for two reaps, a read of a script gives
@@ -120,10 +124,10 @@ impl Setup {
             LineKind::Copy => self.set_copy(words),
             LineKind::Change(how) => self.set_changed(how, words),
             LineKind::Script => self.set_script(words),
-            LineKind::Line => self.repeat(1, words.text(), "\n"),
-            LineKind::Text => self.repeat(1, words.quoted()?, ""),
-            LineKind::Repeat => self.add_repeated(words, ""),
-            LineKind::Lines => self.add_repeated(words, "\n"),
+            LineKind::Line => self.repeat(1, words.text().as_bytes(), b"\n"),
+            LineKind::Text => self.repeat(1, words.quoted()?.as_bytes(), b""),
+            LineKind::Repeat => self.add_lines(words, b""),
+            LineKind::Lines => self.add_lines(words, b"\n"),
             LineKind::Digits => self.add_digits(words),
             LineKind::Lags => self.set_lags(words),
             LineKind::Source => self.set_source(words),
@@ -139,8 +143,10 @@ impl Setup {
 
     /// A copy of the contents under a name.
     pub fn contents(&self, name: &str) -> Result<Vec<u8>, CaseError> {
-        let bytes = self.bytes(name)?;
-        bytes.to_vec(self.alloc).map_err(CaseError::from)
+        match self.bytes(name) {
+            Ok(bytes) => bytes.to_vec(self.alloc).map_err(CaseError::from),
+            Err(wrong) => Err(wrong),
+        }
     }
 
     /// Puts a device of these contents under a name.
@@ -148,10 +154,20 @@ impl Setup {
         put(self.alloc, &mut self.devices, name, contents)
     }
 
+    /// Puts a device of a copy of these contents under a name.
+    pub fn put_copy(&mut self, name: &str, contents: &[u8]) -> Result<(), CaseError> {
+        match contents.to_vec(self.alloc) {
+            Ok(contents) => self.put_device(name, contents),
+            Err(_) => Err(CaseError::OutOfMemory),
+        }
+    }
+
     /// Puts a script of this text under a name.
     pub fn put_script(&mut self, name: &str, text: &[u8]) -> Result<(), CaseError> {
-        let text = text.to_vec(self.alloc)?;
-        put(self.alloc, &mut self.scripts, name, text)
+        match text.to_vec(self.alloc) {
+            Ok(text) => put(self.alloc, &mut self.scripts, name, text),
+            Err(_) => Err(CaseError::OutOfMemory),
+        }
     }
 
     /// Puts a device of so many units under a name, which begins with this and is zeros from there on.
@@ -162,7 +178,10 @@ impl Setup {
         mut front: Spelling,
     ) -> Result<(), CaseError> {
         front.resize(units.saturating_mul(4096), 0);
-        self.put_device(name, front.finish()?)
+        match front.finish() {
+            Ok(contents) => self.put_device(name, contents),
+            Err(wrong) => Err(wrong),
+        }
     }
 
     fn set_device(&mut self, mut words: Words<'_>) -> Result<(), CaseError> {
@@ -174,80 +193,87 @@ impl Setup {
     fn set_store(&mut self, mut words: Words<'_>) -> Result<(), CaseError> {
         let name = words.next()?;
         let [half, units, epoch] = words.numbers::<3>()?;
-        let says = Slot {
-            half,
-            units,
-            epoch,
-            first: 0,
-        };
-        self.put_spelled(name, units, spelled_slot(self.alloc, &says))
+        let mut front = Spelling::new(self.alloc);
+        push_slot(&mut front, [half, units, epoch, 0]);
+        self.put_spelled(name, units, front)
     }
 
     fn set_copy(&mut self, words: Words<'_>) -> Result<(), CaseError> {
         let (from, to) = words.last_two()?;
-        let contents = self.contents(from)?;
-        self.put_device(to, contents)
+        match self.contents(from) {
+            Ok(contents) => self.put_device(to, contents),
+            Err(wrong) => Err(wrong),
+        }
     }
 
     fn set_changed(&mut self, how: Change, mut words: Words<'_>) -> Result<(), CaseError> {
         let name = words.next()?;
-        let mut contents = self.contents(name)?;
-        make_change(self.alloc, how, &mut contents, words)?;
-        self.put_device(name, contents)
+        let at = how.place(words.number()?);
+        match how.spell(self.alloc, words) {
+            Ok(bytes) => self.change(how, name, at, &bytes),
+            Err(wrong) => Err(wrong),
+        }
+    }
+
+    /// Changes the device of a name by bytes that are laid from a place on.
+    fn change(
+        &mut self,
+        how: Change,
+        name: &str,
+        at: usize,
+        bytes: &[u8],
+    ) -> Result<(), CaseError> {
+        for device in &mut self.devices {
+            if device.name.as_str() == name {
+                return how.make(&mut device.bytes, at, bytes);
+            }
+        }
+        Err(CaseError::Line("no such device"))
     }
 
     fn set_script(&mut self, words: Words<'_>) -> Result<(), CaseError> {
         self.put_script(words.last()?, &[])
     }
 
-    /// Adds bytes to the text of the last script.
-    fn add(&mut self, bytes: &[u8]) -> Result<(), CaseError> {
+    /// Adds bytes and an end to the last script, so many times.
+    fn repeat(&mut self, count: u32, bytes: &[u8], end: &[u8]) -> Result<(), CaseError> {
         match self.scripts.last_mut() {
-            Some(script) => script
-                .bytes
-                .extend_from_slice(bytes)
-                .map_err(CaseError::from),
+            Some(script) => add_repeated(&mut script.bytes, count, bytes, end),
             None => Err(CaseError::Line("no script")),
         }
     }
 
-    /// Adds text and an end to the last script, so many times.
-    fn repeat(&mut self, count: u32, text: &str, end: &str) -> Result<(), CaseError> {
-        for _ in 0..count {
-            self.add(text.as_bytes())?;
-            self.add(end.as_bytes())?;
-        }
-        Ok(())
-    }
-
-    fn add_repeated(&mut self, mut words: Words<'_>, end: &str) -> Result<(), CaseError> {
+    fn add_lines(&mut self, mut words: Words<'_>, end: &[u8]) -> Result<(), CaseError> {
         let count = words.small()?;
-        self.repeat(count, words.text(), end)
+        self.repeat(count, words.text().as_bytes(), end)
     }
 
     fn add_digits(&mut self, words: Words<'_>) -> Result<(), CaseError> {
-        let bytes = read_hex(self.alloc, words.last()?)?;
-        self.add(&bytes)
+        match read_hex(self.alloc, words.text()) {
+            Ok(bytes) => self.repeat(1, &bytes, b""),
+            Err(wrong) => Err(wrong),
+        }
     }
 
     fn set_lags(&mut self, words: Words<'_>) -> Result<(), CaseError> {
-        self.lags.clear();
+        let mut lags = Spelling::new(self.alloc);
         for word in words.text().split(' ') {
-            self.lags.push(lag_of(word)?)?;
+            let lag = lags.read_or(lag_of(word), 0);
+            lags.push(&[lag]);
         }
+        self.lags = lags.finish()?;
         Ok(())
     }
 
     fn set_source(&mut self, words: Words<'_>) -> Result<(), CaseError> {
-        let [step] = words.numbers::<1>()?;
-        self.source_step = at_most_32_bits(step);
+        self.source_step = words.last().and_then(small)?;
         Ok(())
     }
 
     fn set_sink(&mut self, words: Words<'_>) -> Result<(), CaseError> {
         let [room, step] = words.numbers::<2>()?;
         self.room = room as usize;
-        self.sink_step = at_most_32_bits(step);
+        self.sink_step = u32::try_from(step).unwrap_or(u32::MAX);
         Ok(())
     }
 }

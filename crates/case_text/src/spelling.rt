@@ -6,11 +6,12 @@ use std::alloc::Global;
 /// The most bytes of one value that are added at a time.
 const MOST: u64 = 1 << 30;
 
-/// Bytes that are spelled into memory. Where memory runs out for a part of them, that part is missing, which `finish` tells.
+/// Bytes that are spelled into memory. Where a part of them can't be spelled, or memory runs out for it, that part is missing, which
+/// `finish` tells.
 #[derive(Drop)]
 pub struct Spelling {
     bytes: Vec<u8>,
-    is_whole: bool,
+    wrong: Option<CaseError>,
 }
 
 impl Spelling {
@@ -18,7 +19,7 @@ impl Spelling {
     pub fn new(alloc: Global) -> Spelling {
         Spelling {
             bytes: Vec::new(alloc),
-            is_whole: true,
+            wrong: None,
         }
     }
 
@@ -27,10 +28,26 @@ impl Spelling {
         self.bytes.as_slice()
     }
 
+    /// A part can't be spelled.
+    pub fn fail(&mut self, why: CaseError) {
+        self.wrong = Some(why);
+    }
+
+    /// What was read; or this where it couldn't be, so that the part that it stands in can't be spelled.
+    pub fn read_or<T: Copy>(&mut self, read: Result<T, CaseError>, none: T) -> T {
+        match read {
+            Ok(value) => value,
+            Err(wrong) => {
+                self.fail(wrong);
+                none
+            }
+        }
+    }
+
     /// Adds bytes.
     pub fn push(&mut self, bytes: &[u8]) {
         if self.bytes.extend_from_slice(bytes).is_err() {
-            self.is_whole = false;
+            self.fail(CaseError::OutOfMemory);
         }
     }
 
@@ -43,7 +60,7 @@ impl Spelling {
     /// Cuts what is spelled at so many bytes, or fills it up to them with bytes of one value. Memory doesn't suffice for 2^30.
     pub fn resize(&mut self, count: u64, value: u8) {
         if MOST < count || self.bytes.resize(count as usize, value).is_err() {
-            self.is_whole = false;
+            self.fail(CaseError::OutOfMemory);
         }
     }
 
@@ -53,12 +70,19 @@ impl Spelling {
         self.resize(units.saturating_mul(4096).saturating_sub(but), 0);
     }
 
+    /// Adds what is spelled elsewhere.
+    pub fn append(&mut self, other: &Spelling) {
+        self.push(&other.bytes);
+        if let Some(wrong) = other.wrong {
+            self.fail(wrong);
+        }
+    }
+
     /// All that was spelled.
     pub fn finish(self) -> Result<Vec<u8>, CaseError> {
-        if self.is_whole {
-            Ok(self.bytes)
-        } else {
-            Err(CaseError::OutOfMemory)
+        match self.wrong {
+            None => Ok(self.bytes),
+            Some(wrong) => Err(wrong),
         }
     }
 }

@@ -34,6 +34,11 @@ impl Text {
         }
     }
 
+    /// What is printed so far.
+    pub fn as_str(&self) -> &str {
+        self.text.as_str()
+    }
+
     /// Prints a text that is printed already.
     pub fn append(&mut self, other: &Text) {
         self.print(other.text.as_str());

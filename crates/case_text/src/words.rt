@@ -16,7 +16,7 @@ fn cut(text: &str) -> (&str, &str) {
 }
 
 /// A word, where `''` is the empty one.
-fn unquoted(word: &str) -> &str {
+pub fn unquoted(word: &str) -> &str {
     if word == "''" { "" } else { word }
 }
 
@@ -52,8 +52,10 @@ impl<'a> Words<'a> {
     /// The last two words.
     pub fn last_two(self) -> Result<(&'a str, &'a str), CaseError> {
         let (first, rest) = cut(self.rest);
-        let last = Words { rest }.last()?;
-        Ok((unquoted(first), last))
+        match (Words { rest }).last() {
+            Ok(last) => Ok((unquoted(first), last)),
+            Err(wrong) => Err(wrong),
+        }
     }
 
     /// The words that are left, as so many numbers in decimal.
@@ -62,8 +64,10 @@ impl<'a> Words<'a> {
         for number in numbers.iter_mut() {
             *number = self.number()?;
         }
-        self.end()?;
-        Ok(numbers)
+        match self.end() {
+            Ok(()) => Ok(numbers),
+            Err(wrong) => Err(wrong),
+        }
     }
 
     /// An error, unless all words are taken.
@@ -165,29 +169,32 @@ fn digit(byte: u8) -> Option<u8> {
 
 /// The byte of two digits.
 fn byte_of(digits: &[u8]) -> Option<u8> {
-    match digits {
-        [high, low] => Some(digit(*high)?.wrapping_mul(16) | digit(*low)?),
+    let [high, low] = digits else {
+        return None;
+    };
+    match (digit(*high), digit(*low)) {
+        (Some(high), Some(low)) => Some(high.wrapping_mul(16) | low),
         _ => None,
     }
 }
 
 /// Adds bytes that stand as digits of base 16, two for each; `-` is none.
-pub fn push_digits(out: &mut Spelling, digits: &str) -> Result<(), CaseError> {
-    if digits == "-" {
-        return Ok(());
+pub fn push_digits(out: &mut Spelling, digits: &str) {
+    if digits.is_empty() {
+        out.fail(CaseError::Line("words are missing"));
     }
+    let digits = if digits == "-" { "" } else { digits };
     for pair in digits.as_bytes().chunks(2) {
         match byte_of(pair) {
             Some(byte) => out.push(&[byte]),
-            None => return Err(CaseError::Line("no digits of bytes")),
+            None => out.fail(CaseError::Line("no digits of bytes")),
         }
     }
-    Ok(())
 }
 
 /// Bytes as digits of base 16, two for each; `-` is none.
 pub fn read_hex(alloc: Global, word: &str) -> Result<Vec<u8>, CaseError> {
     let mut bytes = Spelling::new(alloc);
-    push_digits(&mut bytes, word)?;
+    push_digits(&mut bytes, word);
     bytes.finish()
 }

@@ -1,18 +1,19 @@
 //! Stores that are opened after each crash of a run, and every cut of what is done then.
 
-use crate::sweep::Sweep;
-use block_device::Tear;
-use case_text::{CaseError, Setup, Text, Words, bytes_of, number};
-use plain_reader::{Counts, apply_front, objects_behind, tear_of};
-use plain_store::Plain;
+use crate::Sweep;
+use block_device::{MemoryDevice, Tear};
+use case_text::{CaseError, Text, Words, print_text};
+use plain_reader::{Counts, Judge, image_at, tear_of};
 use run_lines::Commands;
 use std::alloc::Global;
+use std::mem;
 
-/// What is done after each crash: a script with a seed.
-#[derive(Clone, Copy)]
-struct Next<'a> {
-    seed: &'a str,
-    script: &'a str,
+/// A run whose crashes are gone on from.
+#[derive(Drop)]
+struct First {
+    dev: MemoryDevice,
+    judge: Judge,
+    tear: Tear,
 }
 
 /// What came of it: the images looked at, those of no front, and the last lines of the runs, each once.
@@ -20,7 +21,7 @@ struct Next<'a> {
 struct Seen {
     crashes: u64,
     counts: Counts,
-    ends: Vec<String>,
+    ends: Text,
 }
 
 impl Seen {
@@ -28,107 +29,106 @@ impl Seen {
         Seen {
             crashes: 0,
             counts: Counts::new(alloc),
-            ends: Vec::new(alloc),
+            ends: Text::new(alloc),
         }
     }
 
-    /// Adds the last line of a text.
-    fn push_end(&mut self, alloc: Global, text: &[u8]) -> Result<(), CaseError> {
+    /// Counts a crash, and adds the last line of what the run after it printed.
+    fn push_end(&mut self, text: &[u8]) {
+        self.crashes = self.crashes.wrapping_add(1);
         let end = last_line(str::from_utf8(text).unwrap_or("no text"));
-        for seen in &self.ends {
-            if seen.as_str() == end {
-                return Ok(());
+        for seen in self.ends.as_str().lines() {
+            if seen == end {
+                return;
             }
         }
-        Ok(self.ends.push(String::from_str(alloc, end)?)?)
+        self.ends.println(end);
+    }
+
+    /// Adds that other units are leaked after a crash than before the first run.
+    fn push_other(&mut self, cut: u64) {
+        let shown = &mut self.counts.shown;
+        shown.println(format_args!("cut {cut}: other units are leaked"));
     }
 
     fn print(&self, least: u64, out: &mut Text) {
         out.print(format_args!("{} crashes, ", self.crashes));
         self.counts.print(Some(least), out);
-        for end in &self.ends {
-            out.println(format_args!("| {end}"));
-        }
+        print_text(out, self.ends.as_str().as_bytes());
     }
 }
 
 fn last_line(text: &str) -> &str {
-    let text = text.strip_suffix("\n").unwrap_or(text);
-    match text.rsplit_once('\n') {
-        Some((_, last)) => last,
-        None => text,
-    }
+    text.lines().last().unwrap_or("")
 }
 
 impl<C: Commands> Sweep<C> {
-    /// The objects after a crash that leaves this image.
-    fn objects_after(&self, image: &[u8]) -> Result<Plain, CaseError> {
-        let Some(count) = self.commits_in(image)? else {
-            return Err(CaseError::Line("a crash of no front"));
-        };
-        let mut plain = objects_behind(self.alloc, &self.history)?;
-        apply_front(self.alloc, &mut plain, self.book()?, count)?;
-        Ok(plain)
+    /// Takes the last run's device, and what its images may be. Its book goes into the history.
+    fn take_first(&mut self, tear: Tear) -> Result<First, CaseError> {
+        self.remember()?;
+        match mem::replace(&mut self.case.ran.dev, None) {
+            Some(dev) => {
+                let judge = mem::replace(&mut self.judge, Judge::of(self.alloc));
+                Ok(First { dev, judge, tear })
+            }
+            None => Err(CaseError::Line("no device came back")),
+        }
     }
 
-    /// What is set up for a second run: this image as the store `dev`, a script of this case, and its lags.
-    fn second_setup(&self, image: Vec<u8>, script: &str) -> Result<Setup, CaseError> {
-        let Some(script) = bytes_of(&self.case.setup.scripts, script) else {
-            return Err(CaseError::Line("no such script"));
-        };
-        let mut setup = Setup::new(self.alloc)?;
-        setup.lags = self.case.setup.lags.to_vec(self.alloc)?;
-        setup.put_device("dev", image)?;
-        setup.put_script("script", script)?;
-        Ok(setup)
+    /// Runs scripts on what a crash leaves.
+    fn step_after(&mut self, first: &First, cut: u64, words: Words<'_>) -> Result<(), CaseError> {
+        let image = image_at(self.alloc, &first.dev, cut, first.tear);
+        self.go_on(first.judge.judge(&image, 0).commits, image)?;
+        self.step(words)
     }
 
-    /// A run on what a crash of the last run leaves.
-    fn after(&self, cut: u64, tear: Tear, next: &Next<'_>) -> Result<Sweep<C>, CaseError> {
-        let image = self.image(cut, tear)?;
-        let plain = self.objects_after(&image)?;
-        let setup = self.second_setup(image, next.script)?;
-        let mut second = Sweep::<C>::of(setup, self.colls);
-        second.step_from(next.seed, &["script"], plain)?;
-        Ok(second)
+    /// Looks at each cut of what was done after a crash.
+    fn sweep_after(&self, first: &First, cut: u64, seen: &mut Seen) -> Result<(), CaseError> {
+        let last = self.last()?;
+        seen.push_end(&self.case.text);
+        if self.judge.leaked != first.judge.leaked {
+            seen.push_other(cut);
+        }
+        last.sweep_into(1, 0, &mut seen.counts);
+        Ok(())
     }
 
-    /// Looks at each cut of what is done after a crash.
-    fn sweep_after(
-        &self,
-        cut: u64,
-        tear: Tear,
-        next: &Next<'_>,
+    /// Looks at each cut of what is done after each crash.
+    fn sweep_each(
+        &mut self,
+        first: &First,
+        words: Words<'_>,
         seen: &mut Seen,
     ) -> Result<(), CaseError> {
-        let second = self.after(cut, tear, next)?;
-        seen.crashes = seen.crashes.wrapping_add(1);
-        seen.push_end(self.alloc, &second.case.text)?;
-        if second.leaked != self.leaked {
-            seen.counts
-                .shown
-                .println(format_args!("cut {cut}: other units are leaked"));
+        for cut in 0..=first.dev.events() {
+            self.step_after(first, cut, words)?;
+            self.sweep_after(first, cut, seen)?;
         }
-        second.sweep(1, 0, &mut seen.counts)
-    }
-
-    /// Looks at each cut of what is done after each crash that tears the log of the last run in this way.
-    fn again(&self, tear: Tear, next: &Next<'_>) -> Result<Seen, CaseError> {
-        let mut seen = Seen::new(self.alloc);
-        for cut in 0..=self.events()? {
-            self.sweep_after(cut, tear, next, &mut seen)?;
-        }
-        Ok(seen)
-    }
-
-    /// Follows `again TEAR SEED SCRIPT LEAST`: shows how many crashes and images there were, of the latter only that they are more
-    /// than so many, and each last line that the runs after the crashes printed.
-    pub fn sweep_again(&self, mut words: Words<'_>, out: &mut Text) -> Result<(), CaseError> {
-        let tear = tear_of(words.next()?)?;
-        let seed = words.next()?;
-        let (script, least) = words.last_two()?;
-        let seen = self.again(tear, &Next { seed, script })?;
-        seen.print(number(least)?, out);
         Ok(())
+    }
+
+    /// Looks at each cut of what is done after each crash, and shows what came of it.
+    fn show_again(
+        &mut self,
+        first: &First,
+        least: u64,
+        words: Words<'_>,
+        out: &mut Text,
+    ) -> Result<(), CaseError> {
+        let mut seen = Seen::new(self.alloc);
+        let swept = self.sweep_each(first, words, &mut seen);
+        seen.print(least, out);
+        swept
+    }
+
+    /// Follows `again TEAR LEAST SEED SCRIPT ..`: shows how many crashes and images there were, of the latter only that they are more than
+    /// so many, and each last line that the runs after the crashes printed. The case goes on from the last of these runs.
+    pub fn sweep_again(&mut self, mut words: Words<'_>, out: &mut Text) -> Result<(), CaseError> {
+        let tear = words.next().and_then(tear_of)?;
+        let least = words.number()?;
+        match self.take_first(tear) {
+            Ok(first) => self.show_again(&first, least, words, out),
+            Err(wrong) => Err(wrong),
+        }
     }
 }

@@ -3,11 +3,9 @@
 #![tactic(auto)]
 
 mod again;
+mod case;
 mod dumped;
-mod judged;
+mod last;
 mod lines;
-mod shown;
-mod sweep;
-mod swept;
 
-pub use sweep::Sweep;
+pub use case::Sweep;

@@ -1,6 +1,7 @@
 //! The lines of a case.
 
-use crate::sweep::Sweep;
+use crate::Sweep;
+use crate::last::{LastKind, show_collection, show_leaks};
 use case_text::{CaseError, Follow, Setup, Text, Words, kind_of};
 use run_lines::Commands;
 use std::alloc::Global;
@@ -14,8 +15,6 @@ enum LineKind {
     Leaked,
     /// `collections COUNT`: how many collections are looked at.
     Collections,
-    /// `rows`: which of the bitmap's first two rows there are.
-    Rows,
     /// A line that is shown before what it comes to.
     Shown(ShownKind),
 }
@@ -25,39 +24,35 @@ enum LineKind {
 enum ShownKind {
     /// `step SEED SCRIPT ..`: a run of `step` on `dev`.
     Step,
-    /// `sweep EVERY` and `sweep EVERY LEAST`: looks at each so many-th cut.
-    Sweep,
-    /// `early EVERY BY`: the same, with each commit acknowledged too early.
-    Early,
-    /// `again TEAR SEED SCRIPT LEAST`: a script after each crash, and each cut of that.
+    /// `again TEAR LEAST SEED SCRIPT ..`: scripts after each crash, and each cut of that.
     Again,
     /// `dumps`: dumps each image of each cut.
     Dumps,
     /// `crash CUT TEAR`: goes on from what a crash leaves.
     Crash,
-    /// `judge NAME`: of how many commits a device is.
-    Judge,
     /// `leaks NAME`: the units that a device has leaked.
     Leaks,
     /// `collection NAME COLL`: whether a device has a collection.
     Collection,
+    /// A line that shows what the last run left.
+    Last(LastKind),
 }
 
 /// The first words of these lines.
 static LINE_KINDS: [(&str, LineKind); 13] = [
     ("step", LineKind::Shown(ShownKind::Step)),
-    ("sweep", LineKind::Shown(ShownKind::Sweep)),
-    ("early", LineKind::Shown(ShownKind::Early)),
+    ("sweep", LineKind::Shown(ShownKind::Last(LastKind::Sweep))),
+    ("early", LineKind::Shown(ShownKind::Last(LastKind::Early))),
     ("again", LineKind::Shown(ShownKind::Again)),
     ("dumps", LineKind::Shown(ShownKind::Dumps)),
     ("crash", LineKind::Shown(ShownKind::Crash)),
-    ("judge", LineKind::Shown(ShownKind::Judge)),
+    ("judge", LineKind::Shown(ShownKind::Last(LastKind::Judge))),
     ("forget", LineKind::Forget),
     ("leaked", LineKind::Leaked),
     ("leaks", LineKind::Shown(ShownKind::Leaks)),
     ("collection", LineKind::Shown(ShownKind::Collection)),
     ("collections", LineKind::Collections),
-    ("rows", LineKind::Rows),
+    ("rows", LineKind::Shown(ShownKind::Last(LastKind::Rows))),
 ];
 
 impl<C: Commands> Sweep<C> {
@@ -73,11 +68,25 @@ impl<C: Commands> Sweep<C> {
             LineKind::Forget => self.forget(words),
             LineKind::Leaked => self.set_leaked(words),
             LineKind::Collections => self.set_collections(words),
-            LineKind::Rows => self.show_rows(words, out),
             LineKind::Shown(kind) => {
                 out.println(line);
                 self.act_shown(kind, words, out)
             }
+        }
+    }
+
+    /// Follows `step SEED SCRIPT ..`, from its second word on.
+    fn show_step(&mut self, words: Words<'_>, out: &mut Text) -> Result<(), CaseError> {
+        self.step(words)?;
+        self.case.print_run(out);
+        Ok(())
+    }
+
+    /// Follows a line that shows what the last run left.
+    fn act_last(&self, kind: LastKind, words: Words<'_>, out: &mut Text) -> Result<(), CaseError> {
+        match self.last() {
+            Ok(last) => last.act(kind, &self.case.setup, words, out),
+            Err(wrong) => Err(wrong),
         }
     }
 
@@ -89,22 +98,23 @@ impl<C: Commands> Sweep<C> {
         out: &mut Text,
     ) -> Result<(), CaseError> {
         match kind {
-            ShownKind::Step => self.step(words, out),
-            ShownKind::Sweep => self.sweep_all(words, out),
-            ShownKind::Early => self.sweep_early(words, out),
+            ShownKind::Step => self.show_step(words, out),
             ShownKind::Again => self.sweep_again(words, out),
-            ShownKind::Dumps => self.dump_all(words, out),
+            ShownKind::Dumps => self.dump_all(out),
             ShownKind::Crash => self.crash(words, out),
-            ShownKind::Judge => self.judge(words, out),
-            ShownKind::Leaks => self.show_leaks(words, out),
-            ShownKind::Collection => self.show_collection(words, out),
+            ShownKind::Leaks => show_leaks(&self.case.setup, words, out),
+            ShownKind::Collection => show_collection(&self.case.setup, words, out),
+            ShownKind::Last(kind) => self.act_last(kind, words, out),
         }
     }
 }
 
 impl<C: Commands> Follow for Sweep<C> {
     fn begin(alloc: Global) -> Result<Sweep<C>, CaseError> {
-        Ok(Sweep::of(Setup::new(alloc)?, 1))
+        match Setup::new(alloc) {
+            Ok(setup) => Ok(Sweep::of(setup)),
+            Err(wrong) => Err(wrong),
+        }
     }
 
     fn follow(&mut self, line: &str, out: &mut Text) -> Result<(), CaseError> {

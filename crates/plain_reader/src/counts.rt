@@ -46,8 +46,3 @@ impl Counts {
         out.println(format_args!(", {} of no front", self.bad));
     }
 }
-
-/// Whether it is one of these, from this place on.
-pub fn has_from(fronts: &[Vec<u8>], least: usize, one: &Vec<u8>) -> bool {
-    fronts.get(least..).unwrap_or(&[]).contains(one)
-}

@@ -15,15 +15,18 @@ pub struct Past {
 
 /// Applies the transaction of an entry.
 pub fn apply(alloc: Global, plain: &mut Plain, entry: Option<&Entry>) -> Result<(), CaseError> {
-    let Some(entry) = entry else {
-        return Err(CaseError::Line("a commit of no entry"));
-    };
-    match &entry.command {
-        Command::Change(change) => match plain.apply(alloc, change) {
-            Ok(()) => Ok(()),
-            Err(_) => Err(CaseError::Line("a commit that isn't applied")),
+    let Some(
+        Entry {
+            command: Command::Change(change),
+            ..
         },
-        _ => Err(CaseError::Line("a commit of no transaction")),
+    ) = entry
+    else {
+        return Err(CaseError::Line("a commit of no transaction"));
+    };
+    match plain.apply(alloc, change) {
+        Ok(()) => Ok(()),
+        Err(_) => Err(CaseError::Line("a commit that isn't applied")),
     }
 }
 
@@ -36,21 +39,24 @@ pub fn apply_commit(
 ) -> Result<(), CaseError> {
     let commits = &book.commits;
     let entries = &book.entries;
-    let Some(commit) = commits.as_slice().get(at) else {
-        return Err(CaseError::Line("no such commit"));
-    };
-    apply(alloc, plain, entries.as_slice().get(commit.place as usize))
+    match commits.as_slice().get(at) {
+        Some(commit) => apply(alloc, plain, entries.as_slice().get(commit.place as usize)),
+        None => Err(CaseError::Line("no such commit")),
+    }
 }
 
-/// Applies the first commits of a book.
-pub fn apply_front(
-    alloc: Global,
-    plain: &mut Plain,
-    book: &Book,
-    count: usize,
-) -> Result<(), CaseError> {
-    for at in 0..count {
-        apply_commit(alloc, plain, book, at)?;
+/// Applies the commits that a store has of a run.
+fn apply_past(alloc: Global, plain: &mut Plain, past: &Past) -> Result<(), CaseError> {
+    for at in 0..past.count {
+        apply_commit(alloc, plain, &past.book, at)?;
+    }
+    Ok(())
+}
+
+/// Applies the commits that a store has of these runs.
+fn apply_all(alloc: Global, plain: &mut Plain, history: &[Past]) -> Result<(), CaseError> {
+    for past in history {
+        apply_past(alloc, plain, past)?;
     }
     Ok(())
 }
@@ -58,20 +64,22 @@ pub fn apply_front(
 /// The objects behind these runs, of which the first one began with a store without objects.
 pub fn objects_behind(alloc: Global, history: &[Past]) -> Result<Plain, CaseError> {
     let mut plain = Plain::new(alloc);
-    for past in history {
-        apply_front(alloc, &mut plain, &past.book, past.count)?;
+    match apply_all(alloc, &mut plain, history) {
+        Ok(()) => Ok(plain),
+        Err(wrong) => Err(wrong),
     }
-    Ok(plain)
 }
 
 /// How many commits an image must have at least: those up to the last one that was acknowledged by the cut, if each was
 /// acknowledged so many events earlier.
 pub fn acknowledged(book: &Book, cut: u64, earlier: u64) -> usize {
     let commits = &book.commits;
-    let mut least = 0;
-    for (i, commit) in commits.as_slice().iter().enumerate() {
+    let mut least = 0usize;
+    let mut count = 0usize;
+    for commit in commits.as_slice() {
+        count = count.wrapping_add(1);
         match commit.acked_at {
-            Some(at) if at.saturating_sub(earlier) <= cut => least = i + 1,
+            Some(at) if at.saturating_sub(earlier) <= cut => least = count,
             _ => {}
         }
     }

@@ -2,65 +2,78 @@
 
 use crate::bitmap::{leaked_units, row_number};
 use crate::object::{Object, read_object};
-use crate::reader::{are_zeros, number_at, small_at};
+use crate::reader::{are_zeros, number_at};
 use crate::record::{Rows, make_all, read_record};
 use crate::values::is_value;
 use byte_maps::{ByteMap, Bytes};
 use crc32c_csum::crc32c;
-use std::alloc::{AllocError, Global};
+use std::alloc::Global;
 
 /// The rows of a store in an image.
 #[derive(Drop)]
 pub struct Found {
+    alloc: Global,
     rows: Rows,
     /// The first data unit, and how many there are.
-    first: u32,
-    count: u32,
+    first: u64,
+    count: u64,
 }
 
 /// A valid superblock slot.
 #[derive(Clone, Copy)]
 struct Slot {
-    units: u32,
-    half: u32,
+    units: u64,
+    half: u64,
     epoch: u64,
     first: u64,
 }
 
-/// The bytes of a unit.
-pub fn unit(image: &[u8], at: u32) -> Option<&[u8]> {
-    let from = 4096 * at as usize;
-    image.get(from..from + 4096)
+/// The place of a unit's first byte.
+pub fn start_of(unit: u64) -> usize {
+    unit.saturating_mul(4096) as usize
+}
+
+/// The bytes of so many units; none where the image ends before.
+fn units(image: &[u8], from: u64, count: u64) -> &[u8] {
+    image
+        .get(start_of(from)..start_of(from.saturating_add(count)))
+        .unwrap_or(&[])
+}
+
+/// The bytes of a unit; none where the image ends before.
+pub fn unit(image: &[u8], at: u64) -> &[u8] {
+    units(image, at, 1)
 }
 
 /// Whether a unit is a slot of version 1 by its first bytes, with zeros behind the fields and a right checksum.
 fn is_slot(unit: &[u8]) -> bool {
-    let Some((body, sum)) = unit.split_at_checked(4092) else {
-        return false;
-    };
+    let body = unit.get(..4092).unwrap_or(&[]);
     body.starts_with(b"BSTORE01")
-        && small_at(body, 8) == 1
+        && number_at(body, 8, 4) == 1
         && are_zeros(body, 40)
-        && small_at(sum, 0) == crc32c(body)
+        && number_at(unit, 4092, 4) == u64::from(crc32c(body))
 }
 
 impl Slot {
     /// Whether the slot of this number may say this of an image of so many bytes.
-    fn fits(&self, len: usize, at: u32) -> bool {
-        len == 4096 * self.units as usize
-            && 2 * self.half as usize + 3 <= self.units as usize
-            && self.epoch % 2 == at as u64
+    fn fits(&self, len: usize, at: u64) -> bool {
+        len == start_of(self.units) && self.first_data() < self.units && self.epoch % 2 == at
+    }
+
+    /// The first data unit.
+    fn first_data(&self) -> u64 {
+        self.half.saturating_mul(2).saturating_add(2)
     }
 }
 
 /// The slot of this number, where it is valid.
-fn read_slot(image: &[u8], at: u32) -> Option<Slot> {
-    let unit = unit(image, at)?;
+fn read_slot(image: &[u8], at: u64) -> Option<Slot> {
+    let unit = unit(image, at);
     let slot = Slot {
-        units: small_at(unit, 12),
-        half: small_at(unit, 16),
-        epoch: number_at(unit, 24),
-        first: number_at(unit, 32),
+        units: number_at(unit, 12, 4),
+        half: number_at(unit, 16, 4),
+        epoch: number_at(unit, 24, 8),
+        first: number_at(unit, 32, 8),
     };
     if is_slot(unit) && slot.fits(image.len(), at) {
         Some(slot)
@@ -78,24 +91,10 @@ fn active_slot(image: &[u8]) -> Option<Slot> {
     }
 }
 
-/// The rows that the records of the active half make.
-fn read_rows(alloc: Global, image: &[u8], slot: &Slot) -> Result<Rows, AllocError> {
-    let mut rows = ByteMap::new(alloc);
-    let half = slot.half as usize;
-    let start = 2 + half * (slot.epoch % 2) as usize;
-    let mut left = image
-        .get(4096 * start..4096 * (start + half))
-        .unwrap_or(&[]);
-    let mut number = slot.first;
-    for _ in 0..slot.half {
-        let Some(record) = read_record(left, number) else {
-            break;
-        };
-        make_all(alloc, &mut rows, &record)?;
-        left = record.rest;
-        number = number.wrapping_add(1);
-    }
-    Ok(rows)
+/// The units of the active half.
+fn active_half<'a>(image: &'a [u8], slot: &Slot) -> &'a [u8] {
+    let start = slot.half.saturating_mul(slot.epoch % 2).saturating_add(2);
+    units(image, start, slot.half)
 }
 
 /// Whether these are the bits of a row of the bitmap: 16 bytes, not all of them zero.
@@ -114,18 +113,55 @@ fn is_known(row: &(Bytes, Bytes)) -> bool {
 }
 
 impl Found {
-    /// What the image holds; None where neither slot is valid, or a row is of no kind that there is.
-    pub fn read(alloc: Global, image: &[u8]) -> Result<Option<Found>, AllocError> {
-        let Some(slot) = active_slot(image) else {
-            return Ok(None);
-        };
-        let rows = read_rows(alloc, image, &slot)?;
-        if !rows.entries().iter().all(is_known) {
-            return Ok(None);
+    /// What the image holds; None where neither slot is valid, or a row is of no kind that there is, or memory runs out.
+    pub fn read(alloc: Global, image: &[u8]) -> Option<Found> {
+        match active_slot(image) {
+            Some(slot) => Found::of_slot(alloc, image, &slot),
+            None => None,
         }
-        let first = slot.half.wrapping_mul(2).wrapping_add(2);
-        let count = slot.units.saturating_sub(first);
-        Ok(Some(Found { rows, first, count }))
+    }
+
+    /// What the image holds, where this is its slot.
+    fn of_slot(alloc: Global, image: &[u8], slot: &Slot) -> Option<Found> {
+        let first = slot.first_data();
+        let mut found = Found {
+            alloc,
+            rows: ByteMap::new(alloc),
+            first,
+            count: slot.units.saturating_sub(first),
+        };
+        if found.make_rows(active_half(image, slot), slot) && found.are_known() {
+            Some(found)
+        } else {
+            None
+        }
+    }
+
+    /// Makes the rows that the records of a half make; false where memory runs out.
+    fn make_rows(&mut self, half: &[u8], slot: &Slot) -> bool {
+        let mut left = half;
+        let mut number = slot.first;
+        for _ in 0..slot.half {
+            let Some(record) = read_record(left, number) else {
+                break;
+            };
+            if make_all(self.alloc, &mut self.rows, &record).is_err() {
+                return false;
+            }
+            left = record.rest;
+            number = number.wrapping_add(1);
+        }
+        true
+    }
+
+    /// Whether each row is of a kind that there is.
+    fn are_known(&self) -> bool {
+        for row in self.rows.entries() {
+            if !is_known(row) {
+                return false;
+            }
+        }
+        true
     }
 
     /// All rows, by their keys.
@@ -145,15 +181,14 @@ impl Found {
     }
 
     /// Whether the bitmap has the row of this number.
-    pub fn has_bitmap_row(&self, number: u32) -> bool {
-        let [a, b, c, d] = number.to_be_bytes();
-        self.rows.contains_key(&[b'b', a, b, c, d])
+    pub fn has_bitmap_row(&self, number: u8) -> bool {
+        self.rows.contains_key(&[b'b', 0, 0, 0, number])
     }
 
     /// The units that the bitmap marks and on which no page stands, ascending. None where the bitmap isn't exact but for these: a bit is 1
-    /// that is of no data unit, or a page stands on a unit whose bit is 0, or on one on which another page stands.
-    pub fn leaked(&self, alloc: Global) -> Result<Option<Vec<u32>>, AllocError> {
-        leaked_units(alloc, self.rows.entries(), self.first, self.count)
+    /// that is of no data unit, or a page stands on a unit whose bit is 0, or on one on which another page stands; or where memory runs out.
+    pub fn leaked(&self) -> Option<Vec<u64>> {
+        leaked_units(self.alloc, self.rows.entries(), self.first, self.count)
     }
 
     /// Whether there is this collection.
@@ -167,14 +202,8 @@ impl Found {
         false
     }
 
-    /// What stands under two names.
-    pub fn object(
-        &self,
-        alloc: Global,
-        image: &[u8],
-        coll: &[u8],
-        name: &[u8],
-    ) -> Result<Object, AllocError> {
-        read_object(alloc, image, self.rows.entries(), coll, name)
+    /// The object under two names, if there is one.
+    pub fn object(&self, image: &[u8], coll: &[u8], name: &[u8]) -> Option<Object> {
+        read_object(self.alloc, image, self.rows.entries(), coll, name)
     }
 }

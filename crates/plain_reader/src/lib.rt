@@ -3,10 +3,10 @@
 #![tactic(auto)]
 
 mod bitmap;
-mod commit_states;
 mod counts;
 mod history;
 mod image;
+mod judge;
 mod left;
 mod names;
 mod object;
@@ -16,12 +16,11 @@ mod spelling;
 mod tears;
 mod values;
 
-pub use commit_states::states;
-pub use counts::{Counts, has_from};
-pub use history::{Past, acknowledged, apply, apply_commit, apply_front, objects_behind};
+pub use counts::Counts;
+pub use history::{Past, acknowledged, apply, objects_behind};
 pub use image::Found;
-pub use left::{COLLS, Judge, Left};
+pub use judge::{Judge, Judgement, leaked_in};
+pub use left::{COLLS, Left, cut_of, found_text, image_at};
 pub use names::{coll_of, name_of};
-pub use object::Object;
-pub use spelling::{COLL, NAMES, spelled};
+pub use spelling::NAMES;
 pub use tears::{TEARS, tear_of};

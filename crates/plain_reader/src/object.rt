@@ -1,21 +1,24 @@
 //! The bytes of an object, of its rows and its pages.
 
-use crate::image::unit;
-use crate::reader::{Reader, number_at, small_at};
+use crate::image::{start_of, unit};
+use crate::reader::{Reader, number_at};
 use crate::values::{behind_name, behind_names};
 use byte_maps::Bytes;
 use crc32c_csum::crc32c;
-use std::alloc::{AllocError, Global};
+use std::alloc::Global;
 
-/// What stands under two names.
+/// The most bytes of an object.
+const MOST_BYTES: u64 = 134_217_728;
+
+/// An object.
 #[derive(Drop)]
-pub enum Object {
-    /// There is no such object.
-    Missing,
-    /// A row says what no row says, or a page has another checksum than its row keeps.
-    Damaged,
-    /// Its bytes, zeros where it has no page, and how many shards it has.
-    Whole(Vec<u8>, usize),
+pub struct Object {
+    /// Its bytes, zeros where it has no page.
+    pub bytes: Vec<u8>,
+    /// How many shards it has.
+    pub shards: usize,
+    /// Whether each of its rows says what such a row may say, and each page has the checksum that its row keeps.
+    pub is_whole: bool,
 }
 
 /// Whether a key is that of a shard of any object: `O`, two names that zero bytes end, `o`, the page, and `x`.
@@ -23,138 +26,152 @@ pub fn is_shard_key(key: &[u8]) -> bool {
     let [b'O', names @ ..] = key else {
         return false;
     };
-    match behind_name(names).and_then(behind_name) {
-        Some([b'o', _, _, _, _, b'x']) => true,
-        _ => false,
-    }
+    matches!(
+        behind_name(names).and_then(behind_name),
+        Some([b'o', _, _, _, _, b'x'])
+    )
 }
 
 /// Whether the row is a shard of this object.
 fn is_shard(key: &[u8], coll: &[u8], name: &[u8]) -> bool {
-    match behind_names(key, coll, name) {
-        Some((b'O', [b'o', _, _, _, _, b'x'])) => true,
-        _ => false,
-    }
+    matches!(
+        behind_names(key, coll, name),
+        Some((b'O', [b'o', _, _, _, _, b'x']))
+    )
+}
+
+/// Whether the row is the onode of this object.
+fn is_onode(key: &[u8], coll: &[u8], name: &[u8]) -> bool {
+    matches!(behind_names(key, coll, name), Some((b'O', [b'o'])))
 }
 
 /// The value of an object's onode.
 fn onode_of<'a>(rows: &'a [(Bytes, Bytes)], coll: &[u8], name: &[u8]) -> Option<&'a [u8]> {
     for row in rows {
-        if let Some((b'O', [b'o'])) = behind_names(row.0.as_slice(), coll, name) {
+        if is_onode(row.0.as_slice(), coll, name) {
             return Some(row.1.as_slice());
         }
     }
     None
 }
 
-/// Lays a page over the bytes, cut at their end.
-fn lay(bytes: &mut [u8], page: u32, unit: &[u8]) -> Option<()> {
-    let (_, rest) = bytes.split_at_mut_checked(4096 * page as usize)?;
-    let count = rest.len().min(unit.len());
-    rest[..count].copy_from_slice(&unit[..count]);
-    Some(())
-}
-
-/// An extent of a shard.
+/// An extent of a shard. One that can't be read has no pages.
 #[derive(Clone, Copy)]
 pub struct Extent<'a> {
-    page: u32,
+    page: u64,
     /// How many pages it has, and so how many units.
-    pub count: u16,
+    pub count: u64,
     /// The first of its units.
-    pub unit: u32,
+    pub unit: u64,
     /// The checksum of each page.
     sums: &'a [u8],
 }
 
 /// The next extent.
-pub fn read_extent<'a>(fields: &mut Reader<'a>) -> Option<Extent<'a>> {
-    let [p0, p1, p2, p3, c0, c1, 0, u0, u1, u2, u3] = fields.bytes(11)? else {
-        return None;
-    };
-    let count = u16::from_le_bytes([*c0, *c1]);
-    let sums = fields.bytes(4 * count as usize)?;
-    if count == 0 || 256 < count {
-        return None;
+pub fn read_extent<'a>(fields: &mut Reader<'a>) -> Extent<'a> {
+    let page = fields.number(4);
+    let count = fields.number(2);
+    let zero = fields.number(1);
+    let unit = fields.number(4);
+    let sums = fields.bytes(count.saturating_mul(4) as usize);
+    if count == 0 || 256 < count || zero != 0 {
+        fields.fail();
     }
-    Some(Extent {
-        page: u32::from_le_bytes([*p0, *p1, *p2, *p3]),
-        count,
-        unit: u32::from_le_bytes([*u0, *u1, *u2, *u3]),
+    Extent {
+        page,
+        count: sums.len() as u64 / 4,
+        unit,
         sums,
-    })
-}
-
-/// Lays the pages of an extent over the bytes.
-fn lay_extent(image: &[u8], fields: &mut Reader<'_>, bytes: &mut [u8]) -> Option<()> {
-    let extent = read_extent(fields)?;
-    for i in 0..extent.count {
-        let found = unit(image, extent.unit.saturating_add(i as u32))?;
-        if small_at(extent.sums, 4 * i as usize) != crc32c(found) {
-            return None;
-        }
-        lay(bytes, extent.page.saturating_add(i as u32), found)?;
     }
-    Some(())
 }
 
-/// Lays the pages of a shard over the bytes.
-fn lay_shard(image: &[u8], shard: &[u8], bytes: &mut [u8]) -> Option<()> {
-    let mut fields = Reader::new(shard);
-    for _ in 0..shard.len() {
-        if fields.is_empty() {
-            break;
-        }
-        lay_extent(image, &mut fields, bytes)?;
-    }
-    if fields.is_empty() { Some(()) } else { None }
-}
-
-/// Lays the pages of all shards of an object over its bytes, and counts the shards.
-fn lay_shards(
-    image: &[u8],
-    rows: &[(Bytes, Bytes)],
-    coll: &[u8],
-    name: &[u8],
-    bytes: &mut [u8],
-) -> Option<usize> {
-    let mut shards = 0usize;
-    for row in rows {
-        if is_shard(row.0.as_slice(), coll, name) {
-            lay_shard(image, row.1.as_slice(), bytes)?;
-            shards = shards.wrapping_add(1);
+impl Object {
+    /// An object of so many zeros.
+    fn new(alloc: Global, size: u64) -> Object {
+        let mut bytes = Vec::new(alloc);
+        let is_whole = size <= MOST_BYTES && bytes.resize(size as usize, 0u8).is_ok();
+        Object {
+            bytes,
+            shards: 0,
+            is_whole,
         }
     }
-    Some(shards)
+
+    /// Lays a page over the bytes, cut at their end.
+    fn lay(&mut self, page: u64, unit: &[u8]) {
+        match self.bytes.split_at_mut_checked(start_of(page)) {
+            Some((_, rest)) => {
+                let count = rest.len().min(unit.len());
+                rest[..count].copy_from_slice(&unit[..count]);
+            }
+            None => self.is_whole = false,
+        }
+    }
+
+    /// Lays the page on a unit over the bytes, where it has this checksum.
+    fn lay_unit(&mut self, image: &[u8], page: u64, at: u64, sum: u64) {
+        let found = unit(image, at);
+        if found.is_empty() || u64::from(crc32c(found)) != sum {
+            self.is_whole = false;
+        } else {
+            self.lay(page, found);
+        }
+    }
+
+    /// Lays the pages of an extent over the bytes.
+    fn lay_extent(&mut self, image: &[u8], extent: &Extent<'_>) {
+        for i in 0..extent.count {
+            let sum = number_at(extent.sums, i.saturating_mul(4) as usize, 4);
+            let page = extent.page.saturating_add(i);
+            self.lay_unit(image, page, extent.unit.saturating_add(i), sum);
+        }
+    }
+
+    /// Lays the pages of a shard over the bytes.
+    fn lay_shard(&mut self, image: &[u8], shard: &[u8]) {
+        let mut fields = Reader::new(shard);
+        for _ in 0..shard.len() {
+            if !fields.is_empty() {
+                self.lay_extent(image, &read_extent(&mut fields));
+            }
+        }
+        self.is_whole = self.is_whole && fields.is_done();
+        self.shards = self.shards.wrapping_add(1);
+    }
+
+    /// Lays the pages of all its shards over the bytes, and counts the shards.
+    fn lay_shards(&mut self, image: &[u8], rows: &[(Bytes, Bytes)], coll: &[u8], name: &[u8]) {
+        for row in rows {
+            if is_shard(row.0.as_slice(), coll, name) {
+                self.lay_shard(image, row.1.as_slice());
+            }
+        }
+    }
 }
 
-/// The size in an onode.
-fn size_of(onode: &[u8]) -> Option<usize> {
-    let size = number_at(onode, 0);
-    if onode.len() == 8 && size <= 134_217_728 {
-        Some(size as usize)
+/// The size in an onode; more than an object's where it isn't one.
+fn size_of(onode: &[u8]) -> u64 {
+    if onode.len() == 8 {
+        number_at(onode, 0, 8)
     } else {
-        None
+        u64::MAX
     }
 }
 
-/// What stands under two names.
+/// The object under two names, if there is one.
 pub fn read_object(
     alloc: Global,
     image: &[u8],
     rows: &[(Bytes, Bytes)],
     coll: &[u8],
     name: &[u8],
-) -> Result<Object, AllocError> {
-    let Some(onode) = onode_of(rows, coll, name) else {
-        return Ok(Object::Missing);
-    };
-    let Some(size) = size_of(onode) else {
-        return Ok(Object::Damaged);
-    };
-    let mut bytes = vec![in alloc; 0u8; size]?;
-    match lay_shards(image, rows, coll, name, &mut bytes) {
-        Some(shards) => Ok(Object::Whole(bytes, shards)),
-        None => Ok(Object::Damaged),
+) -> Option<Object> {
+    match onode_of(rows, coll, name) {
+        Some(onode) => {
+            let mut object = Object::new(alloc, size_of(onode));
+            object.lay_shards(image, rows, coll, name);
+            Some(object)
+        }
+        None => None,
     }
 }

@@ -1,83 +1,77 @@
 //! Numbers and pieces of bytes, which this reader takes apart by itself. Numbers have their lowest byte first.
 
-/// The bytes that aren't read yet.
+/// The bytes that aren't read yet. Where fewer are left than are read, nothing is read, and none are left.
 #[derive(Clone, Copy)]
 pub struct Reader<'a> {
     left: &'a [u8],
+    is_short: bool,
 }
 
 impl<'a> Reader<'a> {
     /// All of these bytes.
     pub fn new(bytes: &'a [u8]) -> Reader<'a> {
-        Reader { left: bytes }
+        Reader {
+            left: bytes,
+            is_short: false,
+        }
     }
 
-    /// Whether all are read.
+    /// Whether none are left.
     pub fn is_empty(&self) -> bool {
         self.left.is_empty()
     }
 
+    /// Whether all are read, and there were as many as were read.
+    pub fn is_done(&self) -> bool {
+        self.left.is_empty() && !self.is_short
+    }
+
+    /// What stands here is nothing that can be read.
+    pub fn fail(&mut self) {
+        self.left = &[];
+        self.is_short = true;
+    }
+
     /// The next bytes, so many.
-    pub fn bytes(&mut self, count: usize) -> Option<&'a [u8]> {
-        let (piece, left) = self.left.split_at_checked(count)?;
-        self.left = left;
-        Some(piece)
+    pub fn bytes(&mut self, count: usize) -> &'a [u8] {
+        match self.left.split_at_checked(count) {
+            Some((piece, left)) => {
+                self.left = left;
+                piece
+            }
+            None => {
+                self.fail();
+                &[]
+            }
+        }
     }
 
-    /// The next byte.
-    pub fn u8(&mut self) -> Option<u8> {
-        let (byte, left) = self.left.split_first()?;
-        self.left = left;
-        Some(*byte)
+    /// The next number of so many bytes.
+    pub fn number(&mut self, width: usize) -> u64 {
+        number_of(self.bytes(width))
     }
 
-    /// The next number of 16 bits.
-    pub fn u16(&mut self) -> Option<u16> {
-        let (two, left) = self.left.split_first_chunk::<2>()?;
-        self.left = left;
-        Some(u16::from_le_bytes(*two))
-    }
-
-    /// The next number of 32 bits.
-    pub fn u32(&mut self) -> Option<u32> {
-        let (four, left) = self.left.split_first_chunk::<4>()?;
-        self.left = left;
-        Some(u32::from_le_bytes(*four))
-    }
-
-    /// The next bytes, as many as a number of 16 bits before them says.
-    pub fn short(&mut self) -> Option<&'a [u8]> {
-        let len = self.u16()?;
-        self.bytes(len as usize)
-    }
-
-    /// The next bytes, as many as a number of 32 bits before them says.
-    pub fn long(&mut self) -> Option<&'a [u8]> {
-        let len = self.u32()?;
-        self.bytes(len as usize)
+    /// The next bytes, as many as a number of this width before them says.
+    pub fn counted(&mut self, width: usize) -> &'a [u8] {
+        let count = self.number(width) as usize;
+        self.bytes(count)
     }
 }
 
-/// The number of 32 bits at a place; 0 where the bytes end before.
-pub fn small_at(bytes: &[u8], at: usize) -> u32 {
-    let Some(rest) = bytes.get(at..) else {
-        return 0;
-    };
-    match rest.split_first_chunk::<4>() {
-        Some((four, _)) => u32::from_le_bytes(*four),
-        None => 0,
+/// The number that bytes are.
+fn number_of(bytes: &[u8]) -> u64 {
+    let mut number = 0u64;
+    let mut weight = 1u64;
+    for byte in bytes {
+        number = number.wrapping_add(weight.wrapping_mul(*byte as u64));
+        weight = weight.wrapping_mul(256);
     }
+    number
 }
 
-/// The number of 64 bits at a place; 0 where the bytes end before.
-pub fn number_at(bytes: &[u8], at: usize) -> u64 {
-    let Some(rest) = bytes.get(at..) else {
-        return 0;
-    };
-    match rest.split_first_chunk::<8>() {
-        Some((eight, _)) => u64::from_le_bytes(*eight),
-        None => 0,
-    }
+/// The number of so many bytes at a place; 0 where the bytes end before.
+pub fn number_at(bytes: &[u8], at: usize, width: usize) -> u64 {
+    number_of(bytes.get(at..at.saturating_add(width)).unwrap_or(&[]))
 }
 
 /// Whether there are only zeros from a place on.

@@ -1,6 +1,6 @@
 //! Records of the log, and the rows that their operations make.
 
-use crate::reader::{Reader, are_zeros, number_at, small_at};
+use crate::reader::{Reader, are_zeros, number_at};
 use byte_maps::{ByteMap, Bytes};
 use crc32c_csum::Digest;
 use std::alloc::{AllocError, Global};
@@ -12,45 +12,39 @@ pub type Rows = ByteMap<Bytes>;
 #[derive(Clone, Copy)]
 pub struct Record<'a> {
     body: &'a [u8],
-    count: u32,
+    count: u64,
     /// What stands behind its last unit.
     pub rest: &'a [u8],
 }
 
-/// An operation on a row.
+/// An operation on a row: 1 sets it, 2 drops it, which has no value, and 3 turns the bits that the value names.
 #[derive(Clone, Copy)]
-enum Change<'a> {
-    Set(&'a [u8], &'a [u8]),
-    Drop(&'a [u8]),
-    Flip(&'a [u8], &'a [u8]),
+struct Change<'a> {
+    code: u64,
+    key: &'a [u8],
+    value: &'a [u8],
 }
 
-fn read_change<'a>(fields: &mut Reader<'a>) -> Option<Change<'a>> {
-    let code = fields.u8()?;
-    let key = fields.short()?;
-    if key.is_empty() || 1024 < key.len() {
-        return None;
+fn read_change<'a>(fields: &mut Reader<'a>) -> Change<'a> {
+    let code = fields.number(1);
+    let key = fields.counted(2);
+    let value = if code == 2 { &[] } else { fields.counted(4) };
+    if code == 0 || 3 < code || key.is_empty() || 1024 < key.len() {
+        fields.fail();
     }
-    if code == 2 {
-        return Some(Change::Drop(key));
-    }
-    let value = fields.long()?;
-    match code {
-        1 => Some(Change::Set(key, value)),
-        3 => Some(Change::Flip(key, value)),
-        _ => None,
-    }
+    Change { code, key, value }
 }
 
 /// Whether the body is exactly so many operations.
-fn has_changes(body: &[u8], count: u32) -> bool {
+fn has_changes(body: &[u8], count: u64) -> bool {
     let mut fields = Reader::new(body);
     for _ in 0..count {
-        if read_change(&mut fields).is_none() {
+        if fields.is_empty() {
             return false;
         }
+        let _change = read_change(&mut fields);
     }
-    fields.is_empty()
+    fields.is_done()
 }
 
 /// The checksum of a record, of what stands before it and of the body.
@@ -63,32 +57,31 @@ fn sum_of(head: &[u8], body: &[u8]) -> u32 {
 
 /// Whether whole units are a record of this body by their first bytes and their checksum, with zeros behind the body.
 fn is_record(whole: &[u8], body: &[u8]) -> bool {
-    let Some((head, _)) = whole.split_at_checked(20) else {
-        return false;
-    };
-    head.starts_with(b"BREC")
+    whole.starts_with(b"BREC")
         && are_zeros(whole, body.len().saturating_add(24))
-        && small_at(whole, 20) == sum_of(head, body)
+        && number_at(whole, 20, 4) == u64::from(sum_of(whole.get(..20).unwrap_or(&[]), body))
 }
 
 /// The record of this number at the front of the bytes, if a valid one stands there.
 pub fn read_record(bytes: &[u8], number: u64) -> Option<Record<'_>> {
-    let len = small_at(bytes, 4) as usize;
-    let units = (24 + len).div_ceil(4096);
-    let (whole, rest) = bytes.split_at_checked(4096 * units)?;
-    let body = whole.get(24..24 + len)?;
-    let count = small_at(whole, 16);
-    if number_at(whole, 8) == number && is_record(whole, body) && has_changes(body, count) {
+    let len = number_at(bytes, 4, 4) as usize;
+    let units = len.saturating_add(24).div_ceil(4096);
+    let (whole, rest) = bytes.split_at_checked(units.saturating_mul(4096))?;
+    let body = whole.get(24..len.saturating_add(24)).unwrap_or(&[]);
+    let count = number_at(whole, 16, 4);
+    if number_at(whole, 8, 8) == number && is_record(whole, body) && has_changes(body, count) {
         Some(Record { body, count, rest })
     } else {
         None
     }
 }
 
-/// Puts copies of a key and its value into the rows.
-fn put(alloc: Global, rows: &mut Rows, key: &[u8], value: &[u8]) -> Result<(), AllocError> {
-    let key = Bytes::from_slice(alloc, key)?;
-    rows.insert(key, Bytes::from_slice(alloc, value)?)
+/// Puts a value under a copy of a key.
+fn put(alloc: Global, rows: &mut Rows, key: &[u8], value: Vec<u8>) -> Result<(), AllocError> {
+    match Bytes::from_slice(alloc, key) {
+        Ok(key) => rows.insert(key, Bytes::from_vec(value)),
+        Err(out) => Err(out),
+    }
 }
 
 /// The exclusive-or, the shorter filled up with zeros.
@@ -105,31 +98,40 @@ fn xored(alloc: Global, one: &[u8], other: &[u8]) -> Result<Vec<u8>, AllocError>
     Ok(bytes)
 }
 
-/// The value of a row after its bits that a mask names are turned.
-fn flipped(alloc: Global, rows: &Rows, key: &[u8], mask: &[u8]) -> Result<Vec<u8>, AllocError> {
+/// The value of a row.
+fn value_of<'a>(rows: &'a Rows, key: &[u8]) -> &'a [u8] {
     match rows.get(key) {
-        Some(old) => xored(alloc, old.as_slice(), mask),
-        None => mask.to_vec(alloc),
+        Some(value) => value.as_slice(),
+        None => &[],
     }
 }
 
+/// Turns the bits of a row that a mask names. A row of zeros is none.
 fn flip(alloc: Global, rows: &mut Rows, key: &[u8], mask: &[u8]) -> Result<(), AllocError> {
-    let value = flipped(alloc, rows, key, mask)?;
-    if are_zeros(&value, 0) {
-        drop(rows.take(key));
-        return Ok(());
+    match xored(alloc, value_of(rows, key), mask) {
+        Ok(value) => {
+            if are_zeros(&value, 0) {
+                drop(rows.take(key));
+                Ok(())
+            } else {
+                put(alloc, rows, key, value)
+            }
+        }
+        Err(out) => Err(out),
     }
-    put(alloc, rows, key, &value)
 }
 
-fn make(alloc: Global, rows: &mut Rows, change: Change<'_>) -> Result<(), AllocError> {
-    match change {
-        Change::Set(key, value) => put(alloc, rows, key, value),
-        Change::Drop(key) => {
-            drop(rows.take(key));
+fn make(alloc: Global, rows: &mut Rows, change: &Change<'_>) -> Result<(), AllocError> {
+    match change.code {
+        1 => match change.value.to_vec(alloc) {
+            Ok(value) => put(alloc, rows, change.key, value),
+            Err(out) => Err(out),
+        },
+        3 => flip(alloc, rows, change.key, change.value),
+        _ => {
+            drop(rows.take(change.key));
             Ok(())
         }
-        Change::Flip(key, mask) => flip(alloc, rows, key, mask),
     }
 }
 
@@ -137,10 +139,7 @@ fn make(alloc: Global, rows: &mut Rows, change: Change<'_>) -> Result<(), AllocE
 pub fn make_all(alloc: Global, rows: &mut Rows, record: &Record<'_>) -> Result<(), AllocError> {
     let mut fields = Reader::new(record.body);
     for _ in 0..record.count {
-        let Some(change) = read_change(&mut fields) else {
-            return Ok(());
-        };
-        make(alloc, rows, change)?;
+        make(alloc, rows, &read_change(&mut fields))?;
     }
     Ok(())
 }

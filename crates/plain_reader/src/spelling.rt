@@ -1,17 +1,13 @@
 //! The objects of a store as bytes that differ where they differ: for each name, an object's size, its bytes and its values.
 
 use crate::image::Found;
-use crate::names::name_of;
 use crate::object::Object;
 use crate::values::value_place;
 use byte_maps::{ByteMap, Bytes};
 use case_text::{CaseError, Spelling};
-use plain_store::{Plain, PlainObject};
+use plain_store::{Collection, Plain, PlainObject};
 use std::alloc::Global;
 use unit_fields::CollName;
-
-/// The collection of a case that names no more of them.
-pub const COLL: &str = "1.0_head";
 
 /// The objects that are looked for in each collection.
 pub const NAMES: [&str; 5] = ["a", "b", "c", "d", "e"];
@@ -41,9 +37,8 @@ fn push_omap(out: &mut Spelling, omap: &ByteMap<Bytes>) {
 }
 
 /// Adds a plain object. Its values stand in the order of the rows that a store has of them.
-fn push_plain_object(out: &mut Spelling, object: &PlainObject) {
-    out.push(b"O");
-    push_bytes(out, object.bytes.as_slice());
+fn push_plain_object(out: &mut Spelling, name: &str, object: &PlainObject) {
+    push_value(out, b'O', name.as_bytes(), object.bytes.as_slice());
     for attr in object.attrs.entries() {
         push_value(out, b'A', attr.0.as_slice(), attr.1.as_slice());
     }
@@ -53,53 +48,38 @@ fn push_plain_object(out: &mut Spelling, object: &PlainObject) {
     push_omap(out, &object.omap);
 }
 
-/// Adds the plain object of this name, if there is one.
-fn push_name(
-    alloc: Global,
-    out: &mut Spelling,
-    plain: &Plain,
-    coll: &CollName,
-    name: &str,
-) -> Result<(), CaseError> {
-    let name = name_of(alloc, name.as_bytes())?;
-    if let Some(object) = plain.find(coll, &name) {
-        push_plain_object(out, object);
-    }
-    out.push(b"end");
-    Ok(())
-}
-
-/// Adds the collection of plain objects of this number.
-fn push_plain(
-    alloc: Global,
-    out: &mut Spelling,
-    plain: &Plain,
-    number: u32,
-) -> Result<(), CaseError> {
-    let coll = CollName::new(alloc, u64::from(number), 0)?;
-    out.push(&[plain.collection(&coll).is_ok() as u8]);
+/// Adds the objects of a plain collection.
+fn push_plain_objects(out: &mut Spelling, objects: &Collection) {
     for name in &NAMES {
-        push_name(alloc, out, plain, &coll, name)?;
+        if let Some(object) = objects.get(name.as_bytes()) {
+            push_plain_object(out, name, object);
+        }
     }
-    Ok(())
 }
 
-/// Plain objects of the first so many collections, spelled so: `1.0_head`, `2.0_head` and so on.
-pub fn spelled_plain(alloc: Global, plain: &Plain, colls: u32) -> Result<Vec<u8>, CaseError> {
-    let mut out = Spelling::new(alloc);
-    for number in 1..=colls {
-        push_plain(alloc, &mut out, plain, number)?;
+/// Adds a collection of plain objects, if there is one.
+fn push_plain(out: &mut Spelling, plain: &Plain, coll: &CollName) {
+    match plain.collection(coll) {
+        Ok(objects) => {
+            out.push(&[1]);
+            push_plain_objects(out, objects);
+        }
+        Err(_) => out.push(&[0]),
     }
-    out.finish()
+}
+
+/// These collections of plain objects, and that there is nothing beside them, spelled so. Nothing where memory runs out.
+pub fn spelled_plain(alloc: Global, plain: &Plain, colls: &[CollName]) -> Vec<u8> {
+    let mut out = Spelling::new(alloc);
+    for coll in colls {
+        push_plain(&mut out, plain, coll);
+    }
+    out.number(0, 8);
+    out.finish().unwrap_or(Vec::new(alloc))
 }
 
 /// Adds the values of an object that was found, and tells how many they are.
-fn push_found_values(
-    out: &mut Spelling,
-    rows: &[(Bytes, Bytes)],
-    coll: &[u8],
-    name: &[u8],
-) -> usize {
+fn push_values(out: &mut Spelling, rows: &[(Bytes, Bytes)], coll: &[u8], name: &[u8]) -> usize {
     let mut count = 0usize;
     for row in rows {
         if let Some((kind, place)) = value_place(row.0.as_slice(), coll, name) {
@@ -110,62 +90,51 @@ fn push_found_values(
     count
 }
 
-/// Adds an object that was found, and tells how many rows it is. One that can't be read is none.
-fn push_found_object(
+/// Adds an object that was found. One that isn't whole can't be spelled.
+fn push_object(out: &mut Spelling, name: &[u8], object: &Object) {
+    if !object.is_whole {
+        out.fail(CaseError::Line("a damaged object"));
+    }
+    push_value(out, b'O', name, &object.bytes);
+}
+
+/// Adds the object of a name that was found, if there is one, and tells how many rows it is.
+fn push_found_name(
     out: &mut Spelling,
     found: &Found,
-    object: &Object,
+    image: &[u8],
     coll: &[u8],
     name: &[u8],
 ) -> usize {
-    let Object::Whole(bytes, shards) = object else {
-        return 0;
-    };
-    out.push(b"O");
-    push_bytes(out, bytes);
-    push_found_values(out, found.rows(), coll, name)
-        .wrapping_add(*shards)
-        .wrapping_add(1)
+    match found.object(image, coll, name) {
+        Some(object) => {
+            push_object(out, name, &object);
+            let values = push_values(out, found.rows(), coll, name);
+            values.wrapping_add(object.shards).wrapping_add(1)
+        }
+        None => 0,
+    }
 }
 
-/// Adds the collection of this number that was found, and tells how many rows it is.
-fn push_found(
-    alloc: Global,
-    out: &mut Spelling,
-    found: &Found,
-    image: &[u8],
-    number: u32,
-) -> Result<usize, CaseError> {
-    let coll = CollName::new(alloc, u64::from(number), 0)?;
-    let has_coll = found.has_collection(coll.as_slice());
+/// Adds a collection that was found, and tells how many rows it is.
+fn push_found(out: &mut Spelling, found: &Found, image: &[u8], coll: &[u8]) -> usize {
+    let has_coll = found.has_collection(coll);
     out.push(&[has_coll as u8]);
     let mut rows = has_coll as usize;
     for name in &NAMES {
-        let object = found.object(alloc, image, coll.as_slice(), name.as_bytes())?;
-        let more = push_found_object(out, found, &object, coll.as_slice(), name.as_bytes());
-        drop(object);
-        rows = rows.wrapping_add(more);
-        out.push(b"end");
+        rows = rows.wrapping_add(push_found_name(out, found, image, coll, name.as_bytes()));
     }
-    Ok(rows)
+    rows
 }
 
-/// What was found in an image, spelled so; None where it has something else than the first so many collections, or an object that
-/// can't be read.
-pub fn spelled(
-    alloc: Global,
-    found: &Found,
-    image: &[u8],
-    colls: u32,
-) -> Result<Option<Vec<u8>>, CaseError> {
+/// What was found of these collections in an image, and how many rows there are beside them, spelled so. Nothing where an object isn't
+/// whole, or memory runs out.
+pub fn spelled(alloc: Global, found: &Found, image: &[u8], colls: &[CollName]) -> Vec<u8> {
     let mut out = Spelling::new(alloc);
     let mut rows = 0usize;
-    for number in 1..=colls {
-        rows = rows.wrapping_add(push_found(alloc, &mut out, found, image, number)?);
+    for coll in colls {
+        rows = rows.wrapping_add(push_found(&mut out, found, image, coll.as_slice()));
     }
-    // There is nothing beside these.
-    if rows != found.len() {
-        return Ok(None);
-    }
-    Ok(Some(out.finish()?))
+    out.number(found.len().wrapping_sub(rows) as u64, 8);
+    out.finish().unwrap_or(Vec::new(alloc))
 }

@@ -2,6 +2,7 @@
 
 use crate::{Commands, Ran};
 use case_text::{CaseError, Follow, Setup, Text, kind_of};
+use object_model::Book;
 use std::alloc::Global;
 
 /// The kinds of lines that run something or show more of the last run.
@@ -47,37 +48,48 @@ pub struct Case<C: Commands> {
     pub alloc: Global,
     pub commands: C,
     pub setup: Setup,
-    /// What the last run left, and what it printed.
-    pub ran: Option<Ran>,
+    /// What the last run left, what it printed, and what the one before it printed.
+    pub ran: Ran,
     pub text: Vec<u8>,
+    pub before: Vec<u8>,
 }
 
 impl<C: Commands> Case<C> {
-    /// A case with this set up, before its first run.
+    /// A case with this set up, before its first run. Its status is none that a command has.
     pub fn of(setup: Setup) -> Case<C> {
         let alloc = setup.alloc;
         Case {
             alloc,
             commands: C::new(),
             setup,
-            ran: None,
+            ran: Ran {
+                status: u8::MAX,
+                dev: None,
+                scripts: 0,
+                book: Book::new(alloc),
+            },
             text: Vec::new(alloc),
+            before: Vec::new(alloc),
         }
     }
 }
 
 impl<C: Commands> Follow for Case<C> {
     fn begin(alloc: Global) -> Result<Case<C>, CaseError> {
-        Ok(Case::of(Setup::new(alloc)?))
+        match Setup::new(alloc) {
+            Ok(setup) => Ok(Case::of(setup)),
+            Err(wrong) => Err(wrong),
+        }
     }
 
     fn follow(&mut self, line: &str, out: &mut Text) -> Result<(), CaseError> {
-        if self.setup.follow(line)? {
-            return Ok(());
+        if let Some((kind, words)) = kind_of(&LINE_KINDS, line) {
+            return self.act(kind, line, words, out);
         }
-        match kind_of(&LINE_KINDS, line) {
-            Some((kind, words)) => self.act(kind, line, words, out),
-            None => Err(CaseError::Line("no such line")),
+        match self.setup.follow(line) {
+            Ok(true) => Ok(()),
+            Ok(false) => Err(CaseError::Line("no such line")),
+            Err(wrong) => Err(wrong),
         }
     }
 }

@@ -1,18 +1,18 @@
 //! Runs of commands over what a case has set up.
 
 use crate::case::{LineKind, RunKind};
-use crate::{Case, Commands, Ran};
+use crate::{Case, Commands};
 use block_device::{Device, MemoryDevice};
-use case_text::{CaseError, Setup, Text, Words, last_written, print_text};
-use end_points::MemorySink;
-use std::alloc::{AllocError, Global};
+use case_text::{CaseError, Follow, Text, Words, last_written, number, print_text, unquoted};
+use end_points::{MemoryBay, MemorySink};
+use std::alloc::Global;
 use std::mem;
 
 /// What `step` prints where the first line of its script is bad.
 const BAD_LINE: &str = "script 0 line 1\nstopped 2\n";
 
 /// The words of a run of the script `script`.
-const STEP_WORDS: [&str; 6] = ["bstore", "step", "dev", "--seed", "1", "script"];
+const STEP_WORDS: &str = "bstore step dev --seed 1 script";
 
 /// Shows a status, and how many units the device has that came back.
 fn print_ended(status: u8, dev: Option<&MemoryDevice>, out: &mut Text) {
@@ -25,44 +25,82 @@ fn print_ended(status: u8, dev: Option<&MemoryDevice>, out: &mut Text) {
     }
 }
 
-/// A copy of what a sink took.
-fn taken(alloc: Global, sink: &MemorySink) -> Result<Vec<u8>, AllocError> {
-    sink.text().to_vec(alloc)
+/// Adds the words of a line, with a number in the place of the word `N`.
+fn push_words(
+    alloc: Global,
+    all: &mut Vec<String>,
+    line: &str,
+    number: &str,
+) -> Result<(), CaseError> {
+    for word in line.split_terminator(' ') {
+        let word = if word == "N" { number } else { unquoted(word) };
+        all.push(String::from_str(alloc, word)?)?;
+    }
+    Ok(())
 }
 
 impl<C: Commands> Case<C> {
-    /// Runs a command line over what is set up, and keeps what came. The calls that were to fail are those of this run alone.
-    pub fn run(&mut self, words: &Vec<String>) -> Result<(), CaseError> {
-        let (mut bay, mut sink) = self.setup.ends()?;
-        let ran = self.commands.run(self.alloc, words, &mut bay, &mut sink);
-        drop(mem::replace(&mut self.ran, ran));
-        self.text = taken(self.alloc, &sink)?;
+    /// Runs a command line over these ends, and keeps what came.
+    fn run_over(
+        &mut self,
+        words: &Vec<String>,
+        bay: &mut MemoryBay,
+        sink: &mut MemorySink,
+    ) -> Result<(), CaseError> {
+        self.setup.put_devices(bay)?;
+        self.setup.put_scripts(bay)?;
+        match self.commands.run(self.alloc, words, bay, sink) {
+            Some(ran) => drop(mem::replace(&mut self.ran, ran)),
+            None => return Err(CaseError::Line("no run")),
+        }
+        self.keep_text(sink.text())
+    }
+
+    /// Keeps what a run printed, and what the one before it printed.
+    fn keep_text(&mut self, text: &[u8]) -> Result<(), CaseError> {
+        match text.to_vec(self.alloc) {
+            Ok(text) => self.before = mem::replace(&mut self.text, text),
+            Err(_) => return Err(CaseError::OutOfMemory),
+        }
         Ok(())
     }
 
-    /// Runs a line of words.
-    pub fn run_line(&mut self, words: &[&str]) -> Result<(), CaseError> {
-        let mut all = Vec::new(self.alloc);
-        for word in words {
-            all.push(String::from_str(self.alloc, word)?)?;
+    /// Runs a command line over what is set up and this sink.
+    fn run_into(&mut self, words: &Vec<String>, sink: &mut MemorySink) -> Result<(), CaseError> {
+        match self.setup.bay() {
+            Ok(mut bay) => self.run_over(words, &mut bay, sink),
+            Err(wrong) => Err(wrong),
         }
-        self.run(&all)
+    }
+
+    /// Runs a command line over what is set up. The calls that were to fail are those of this run alone.
+    fn run(&mut self, words: &Vec<String>) -> Result<(), CaseError> {
+        match self.setup.sink() {
+            Ok(mut sink) => self.run_into(words, &mut sink),
+            Err(wrong) => Err(wrong),
+        }
+    }
+
+    /// Runs a line of words, with a number in the place of the word `N`.
+    fn run_numbered(&mut self, line: &str, number: &str) -> Result<(), CaseError> {
+        let mut words = Vec::new(self.alloc);
+        match push_words(self.alloc, &mut words, line, number) {
+            Ok(()) => self.run(&words),
+            Err(wrong) => Err(wrong),
+        }
+    }
+
+    /// Runs a line of words.
+    pub fn run_line(&mut self, line: &str) -> Result<(), CaseError> {
+        self.run_numbered(line, "N")
     }
 }
 
 impl<C: Commands> Case<C> {
-    /// Shows the status of the last run, and how many units the device has that came back.
-    fn print_status(&self, out: &mut Text) {
-        match &self.ran {
-            Some(ran) => print_ended(ran.status, ran.dev.as_ref(), out),
-            None => out.println("no run"),
-        }
-    }
-
     /// Shows what the last run printed, and how it ended.
     pub fn print_run(&self, out: &mut Text) {
         print_text(out, &self.text);
-        self.print_status(out);
+        print_ended(self.ran.status, self.ran.dev.as_ref(), out);
     }
 
     /// Follows a line that runs something or shows more of the last run, from its second word on.
@@ -99,61 +137,47 @@ impl<C: Commands> Case<C> {
     }
 
     fn run_words(&mut self, words: Words<'_>, out: &mut Text) -> Result<(), CaseError> {
-        self.run_line(&words.list(self.alloc)?)?;
+        self.run_line(words.text())?;
         self.print_run(out);
         Ok(())
     }
 
+    /// A run for each of these numbers. All must print the same; the last one is kept.
     fn run_each(&mut self, mut words: Words<'_>, out: &mut Text) -> Result<(), CaseError> {
         let first = words.small()?;
         let end = words.small()?;
-        self.run_range(first, end, &words.list(self.alloc)?)?;
+        for number in first..end {
+            self.run_with(words.text(), number, number == first)?;
+        }
         self.print_run(out);
         Ok(())
     }
 
-    /// A run for each of these numbers, in the place of the word `N`. All must come to the same; the last one is kept.
-    fn run_range(&mut self, first: u32, end: u32, words: &[&str]) -> Result<(), CaseError> {
-        let mut before = Vec::new(self.alloc);
-        for number in first..end {
-            self.run_with(words, number)?;
-            if number != first && self.text != before {
-                return Err(CaseError::Line("the runs differ"));
+    /// A run for a number, which must print the same as the one before it, unless it is the first.
+    fn run_with(&mut self, line: &str, number: u32, is_first: bool) -> Result<(), CaseError> {
+        let mut digits = Text::new(self.alloc);
+        digits.print(number);
+        match self.run_numbered(line, digits.as_str()) {
+            Ok(()) if !is_first && self.text != self.before => {
+                Err(CaseError::Line("the runs differ"))
             }
-            before = self.text.as_slice().to_vec(self.alloc)?;
+            ran => ran,
         }
-        Ok(())
-    }
-
-    fn run_with(&mut self, words: &[&str], number: u32) -> Result<(), CaseError> {
-        let digits = format!(in self.alloc; "{number}")?;
-        let mut all = Vec::new(self.alloc);
-        for word in words {
-            let word = if *word == "N" { digits.as_str() } else { *word };
-            all.push(String::from_str(self.alloc, word)?)?;
-        }
-        self.run(&all)
     }
 
     /// Whether the last run had this status.
     pub fn has_status(&self, status: u8) -> bool {
-        match &self.ran {
-            Some(ran) => ran.status == status,
-            None => false,
-        }
+        self.ran.status == status
     }
 
     /// Whether the last run had this status, and no device came back.
     fn has_ended_with(&self, status: u8) -> bool {
-        match &self.ran {
-            Some(ran) => ran.status == status && ran.dev.is_none(),
-            None => false,
-        }
+        self.ran.status == status && self.ran.dev.is_none()
     }
 
     /// Shows a run, unless the words were no command line: status 1, no device, and a text that begins so.
     fn run_usage(&mut self, words: Words<'_>, out: &mut Text) -> Result<(), CaseError> {
-        self.run_line(&words.list(self.alloc)?)?;
+        self.run_line(words.text())?;
         if !self.text.starts_with(b"usage: ") || !self.has_ended_with(1) {
             self.print_run(out);
         }
@@ -163,58 +187,76 @@ impl<C: Commands> Case<C> {
     /// Runs a script whose first line is to be bad, read by one byte, by three, and at once. Shows a run that says something else.
     fn run_bad(&mut self, text: &str, out: &mut Text) -> Result<(), CaseError> {
         self.setup.put_script("script", text.as_bytes())?;
-        for step in [1, 3, 100000] {
-            self.setup.source_step = step;
-            self.run_line(&STEP_WORDS)?;
-            if self.text.as_slice() != BAD_LINE.as_bytes() || !self.has_ended_with(2) {
-                self.print_run(out);
-            }
+        for step in &[1, 3, 100000] {
+            self.run_by(*step, out)?;
+        }
+        Ok(())
+    }
+
+    /// Runs the script, read by so many bytes.
+    fn run_by(&mut self, step: u32, out: &mut Text) -> Result<(), CaseError> {
+        self.setup.source_step = step;
+        self.run_line(STEP_WORDS)?;
+        if self.text.as_slice() != BAD_LINE.as_bytes() || !self.has_ended_with(2) {
+            self.print_run(out);
         }
         Ok(())
     }
 
     /// The bytes that the device that came back was last written.
     pub fn left(&self) -> Result<Vec<u8>, CaseError> {
-        match &self.ran {
-            Some(Ran { dev: Some(dev), .. }) => Ok(last_written(dev)?),
-            _ => Err(CaseError::Line("no device came back")),
+        match &self.ran.dev {
+            Some(dev) => last_written(dev).map_err(CaseError::from),
+            None => Err(CaseError::Line("no device came back")),
         }
     }
 
     fn keep(&mut self, words: Words<'_>) -> Result<(), CaseError> {
-        let left = self.left()?;
-        self.setup.put_device(words.last()?, left)
+        let name = words.last()?;
+        match self.left() {
+            Ok(left) => self.setup.put_device(name, left),
+            Err(wrong) => Err(wrong),
+        }
     }
 
-    fn fail_behind_mount(&mut self, mut words: Words<'_>) -> Result<(), CaseError> {
-        let reads = self.reads_of_a_mount(words.next()?)?;
-        let [more] = words.numbers::<1>()?;
-        Ok(self.setup.fails.fail_read(reads.saturating_add(more))?)
+    fn fail_behind_mount(&mut self, words: Words<'_>) -> Result<(), CaseError> {
+        let (name, more) = words.last_two()?;
+        let more = number(more)?;
+        match self.reads_of_a_mount(name) {
+            Ok(reads) => self.setup.fails.fail_read(reads.saturating_add(more)),
+            Err(wrong) => Err(wrong),
+        }
     }
 
-    /// How many reads a mount of a device makes: a run of no commands meets the failure of no others.
+    /// How many reads a mount of a device makes.
     fn reads_of_a_mount(&self, name: &str) -> Result<u64, CaseError> {
+        let contents = self.setup.bytes(name)?;
+        match Case::<C>::begin(self.alloc) {
+            Ok(mut other) => {
+                let reads = other.reads_of(contents);
+                drop(other);
+                reads
+            }
+            Err(wrong) => Err(wrong),
+        }
+    }
+
+    /// How many reads a mount of a device of these contents makes: a run of no commands meets the failure of no others.
+    fn reads_of(&mut self, contents: &[u8]) -> Result<u64, CaseError> {
+        self.setup.put_copy("dev", contents)?;
+        self.setup.put_script("script", &[])?;
         for number in 0..100u64 {
-            if self.mounts_behind(name, number)? {
+            if self.mounts_behind(number)? {
                 return Ok(number);
             }
         }
         Err(CaseError::Line("a mount makes fewer reads"))
     }
 
-    /// What is set up for a run of no commands on a device, in which the read of this number fails.
-    fn setup_of_a_mount(&self, name: &str, number: u64) -> Result<Setup, CaseError> {
-        let mut setup = Setup::new(self.alloc)?;
-        setup.put_device("dev", self.setup.contents(name)?)?;
-        setup.put_script("script", &[])?;
-        setup.fails.fail_read(number)?;
-        Ok(setup)
-    }
-
-    /// Whether a device is mounted though the read of this number fails.
-    fn mounts_behind(&self, name: &str, number: u64) -> Result<bool, CaseError> {
-        let mut other = Case::<C>::of(self.setup_of_a_mount(name, number)?);
-        other.run_line(&STEP_WORDS)?;
-        Ok(other.has_status(0))
+    /// Whether the device is mounted though the read of this number fails.
+    fn mounts_behind(&mut self, number: u64) -> Result<bool, CaseError> {
+        self.setup.fails.fail_read(number)?;
+        self.run_line(STEP_WORDS)?;
+        Ok(self.has_status(0))
     }
 }

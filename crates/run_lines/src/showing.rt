@@ -1,6 +1,6 @@
 //! What is shown of a run beside its text.
 
-use crate::{Case, Commands};
+use crate::{Case, Commands, Ran};
 use block_device::MemoryDevice;
 use case_text::{CaseError, Text, Words, look_up, print_piece};
 
@@ -27,40 +27,46 @@ static SHOWN: [(&str, Shown); 5] = [
     ("bytes", Shown::Bytes),
 ];
 
-fn show_events(dev: Option<&MemoryDevice>, out: &mut Text) {
+fn events_of(dev: Option<&MemoryDevice>) -> u64 {
     match dev {
-        Some(dev) => out.println(format_args!("events {}", dev.events())),
-        None => out.println("no device"),
+        Some(dev) => dev.events(),
+        None => 0,
     }
 }
 
-fn show_count(what: &str, count: usize, out: &mut Text) {
-    out.println(format_args!("{what} {count}"));
+/// Shows how many there are of something that the last run left.
+fn show_ran(ran: &Ran, what: Shown, out: &mut Text) {
+    let (name, count) = match what {
+        Shown::Events => ("events", events_of(ran.dev.as_ref())),
+        Shown::Entries => ("entries", ran.book.entries.len() as u64),
+        Shown::Commits => ("commits", ran.book.commits.len() as u64),
+        Shown::Scripts => ("scripts", ran.scripts as u64),
+        Shown::Bytes => ("bytes", 0),
+    };
+    out.println(format_args!("{name} {count}"));
 }
 
 impl<C: Commands> Case<C> {
     /// Follows a line that shows more of the last run, from its second word on.
     pub fn show(&self, mut words: Words<'_>, out: &mut Text) -> Result<(), CaseError> {
-        let Some(what) = look_up(&SHOWN, words.next()?) else {
-            return Err(CaseError::Line("no such line"));
-        };
-        let Some(ran) = &self.ran else {
-            return Err(CaseError::Line("there was no run"));
-        };
-        match what {
-            Shown::Events => show_events(ran.dev.as_ref(), out),
-            Shown::Entries => show_count("entries", ran.book.entries.len(), out),
-            Shown::Commits => show_count("commits", ran.book.commits.len(), out),
-            Shown::Scripts => show_count("scripts", ran.scripts, out),
-            Shown::Bytes => return self.show_bytes(words, out),
+        let word = words.next()?;
+        match look_up(&SHOWN, word) {
+            Some(Shown::Bytes) => self.show_bytes(words, out),
+            Some(what) => {
+                show_ran(&self.ran, what, out);
+                words.end()
+            }
+            None => Err(CaseError::Line("no such line")),
         }
-        Ok(())
     }
 
     /// Shows bytes of the device that came back, as runs of equal ones.
     fn show_bytes(&self, words: Words<'_>, out: &mut Text) -> Result<(), CaseError> {
         let [at, count] = words.numbers::<2>()?;
         out.print(format_args!("bytes {at}"));
-        print_piece(out, &self.left()?, at, count)
+        match self.left() {
+            Ok(left) => print_piece(out, &left, at, count),
+            Err(wrong) => Err(wrong),
+        }
     }
 }

@@ -27,14 +27,14 @@ each() {
 
 about
 set_up 4096 12000 <<<'mkcoll 1.0_head'
-for ((i = 0; i < 400; i++)); do echo 'mkcoll 1.0_head'; done | each 'a line that is refused' 5100 400
+for ((i = 0; i < 400; i++)); do echo 'mkcoll 1.0_head'; done | each 'a line that is refused' 4800 400
 
 {
   echo 'mkcoll 1.0_head'
   for ((i = 0; i < 100; i++)); do printf 'write 1.0_head o%d 0 fill:%02x:4096\n' "$i" "$i"; done
 } | set_up 4096 12000
 for ((i = 0; i < 400; i++)); do printf 'write 1.0_head o%d 0 fill:%02x:4096\n' $((i % 100)) $((i % 256)); done |
-  each 'a page over a page, 100 objects' 44300 400
+  each 'a page over a page, 100 objects' 43800 400
 
 for many in 2000 40000; do
   {
@@ -42,7 +42,7 @@ for many in 2000 40000; do
     for ((i = 0; i < many; i++)); do printf 'write 1.0_head o%06d 0 fill:%02x:4096\n' $((i * 37 % many * 10)) $((i % 256)); done
   } | set_up 65536 200000
   for ((i = 0; i < 200; i++)); do printf 'write 1.0_head o%06d 0 fill:%02x:4096\n' $((i * 97 * many / 2000 % many * 10 + 5)) "$i"; done |
-    each "a page of a new object, among $many" 54200 200
+    each "a page of a new object, among $many" 53800 200
 done
 
 {
@@ -50,21 +50,21 @@ done
   for ((i = 0; i < 512; i++)); do printf 'write 1.0_head a %d fill:%02x:4096\n' $((i * 211 % 512 * 4096)) $((i % 256)); done
 } | set_up 4096 12000
 for ((i = 0; i < 100; i++)); do printf 'write 1.0_head a %d fill:%02x:4096\n' $((i * 131 % 512 * 4096)) "$i"; done |
-  each 'a page over a page of 512 scattered ones' 139600 100
+  each 'a page over a page of 512 scattered ones' 139000 100
 
 set_up 4096 24000 <<<'mkcoll 1.0_head'
 for ((i = 0; i < 12; i++)); do printf 'write 1.0_head o%d 0 fill:%02x:1044480\n' "$i" "$i"; done |
-  each 'a write of 255 pages' 2882000 12
+  each 'a write of 255 pages' 2880000 12
 
 {
   echo 'mkcoll 1.0_head'
   for ((i = 0; i < 16; i++)); do printf 'write 1.0_head a %d fill:%02x:4096\n' $((i * 4096)) "$i"; done
   for ((i = 0; i < 128; i++)); do printf 'write 1.0_head b %d fill:%02x:1048576\n' $((i * 1048576)) "$i"; done
 } | sed 's/1048576$/1044480/' | set_up 4096 60000
-for ((i = 0; i < 200; i++)); do printf 'read 1.0_head a %d 4096\n' $((i % 16 * 4096)); done | each 'a read of 4 KiB of 16 pages' 44100 200
+for ((i = 0; i < 200; i++)); do printf 'read 1.0_head a %d 4096\n' $((i % 16 * 4096)); done | each 'a read of 4 KiB of 16 pages' 42900 200
 for ((i = 0; i < 200; i++)); do printf 'read 1.0_head b %d 4096\n' $((i * 131 % 128 * 1048576)); done |
-  each 'a read of 4 KiB of an object of 128 MiB' 45600 200
-for ((i = 0; i < 12; i++)); do printf 'read 1.0_head b %d 1044480\n' $((i * 1048576)); done | each 'a read of 255 pages' 9040000 12
+  each 'a read of 4 KiB of an object of 128 MiB' 44300 200
+for ((i = 0; i < 12; i++)); do printf 'read 1.0_head b %d 1044480\n' $((i * 1048576)); done | each 'a read of 255 pages' 8930000 12
 printf 'sum 1.0_head b\nsum 1.0_head b\n' | each 'a sum of 128 MiB' 231000000 2
 
 : >"$made/empty"

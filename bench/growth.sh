@@ -1,7 +1,8 @@
 #!/usr/bin/env bash
 # Tells what grows: the processor time of one operation, on a file in memory, beside stores of more and more objects whose names came
 # in falling, rising and scrambled order, and beside an object of more and more pages; and what opening each store takes. What
-# opening takes is taken off from the operations, each of which is waited for. The least of three runs. Usage: bench/growth.sh [MOST OBJECTS] [FOLDER] [ANOTHER PROGRAM]
+# opening takes is taken off from the operations, each of which is waited for. The least of three runs. It says what is wanted of each, and
+# ends with status 1 where one is beyond that. Usage: bench/growth.sh [MOST OBJECTS] [FOLDER] [ANOTHER PROGRAM]
 set -eu
 here=$(cd "$(dirname "${BASH_SOURCE[0]}")" && pwd)
 . "$here/about.sh"
@@ -16,7 +17,7 @@ took() {
   local TIMEFORMAT='%3U %3S' turn
   for turn in 1 2 3; do
     cp --sparse=always "$made/disk" "$made/work"
-    { time /usr/bin/env time -f %M -o "$made/memory" "$program" step "$made/work" --seed "$turn" "$1" >"$made/output"; } 2>>"$made/times" ||
+    { time "${ahead[@]}" /usr/bin/env time -f %M -o "$made/memory" "$program" step "$made/work" --seed "$turn" "$1" >"$made/output"; } 2>>"$made/times" ||
       { tail -n 2 "$made/output" >&2; exit 1; }
   done
   awk '{ t = 1000 * ($1 + $2); if (NR == 1 || t < least) least = t } END { printf "%d", least }' "$made/times"
@@ -47,11 +48,16 @@ for order in rising falling scrambled; do
   for count in 1000 40000 "$most"; do
     [ "$count" -le "$most" ] || continue
     { echo 'mkcoll 1.0_head'; names "$order" "$count" | sed 's/.*/write 1.0_head o& 0 fill:5a:4096/'; } | set_up
-    for ((i = 0; i < 1000; i++)); do printf 'write 1.0_head o%06d 0 fill:5b:4096\nwait\n' $((i * 7907 % count * 10 + 1 + i / count)); done >"$made/script"
+    for ((i = 0; i < 4000; i++)); do printf 'write 1.0_head o%06d 0 fill:5b:4096\nwait\n' $((i * 7907 % count * 10 + 1 + i / count)); done >"$made/script"
     opening=$(took "$made/empty")
     all=$(took "$made/script")
-    awk -v o="$order" -v n="$count" -v a="$all" -v b="$opening" 'BEGIN { printf "%-34s %12d %14.1f\n", n " " o, b, (a - b) }'
+    is_time "a new object, $count $order" $((all - opening))
+    awk -v o="$order" -v n="$count" -v a="$all" -v b="$opening" 'BEGIN { printf "%-34s %12d %14.1f\n", n " " o, b, (a - b) / 4 }'
+    [ "$count" != 1000 ] || few=$((all - opening)) first=$opening
   done
+  # the largest store that there was
+  wanted "a new object among $count against 1000, $order" "$(ratio $((all - opening)) "$few")" 'at most' 2.5
+  [ "$count" = 1000 ] || wanted "opening, $order, in us an object beyond the first 1000" "$(ratio $((1000 * (opening - first))) $((count - 1000)))" 'at most' 6
 done
 printf '%-34s %12s %14s %12s\n' 'pages of an object' 'opening, ms' 'a page, us' 'a read, us'
 for pages in 1 16 512 4096 32768; do
@@ -62,9 +68,22 @@ for pages in 1 16 512 4096 32768; do
     done
   } | set_up
   opening=$(took "$made/empty")
-  for ((i = 0; i < 500; i++)); do printf 'write 1.0_head a %d fill:5b:4096\nwait\n' $((i * 7919 % pages * 4096)); done >"$made/script"
-  writes=$(took "$made/script")
-  for ((i = 0; i < 2000; i++)); do printf 'read 1.0_head a %d 4096\n' $((i * 7919 % pages * 4096)); done >"$made/script"
-  reads=$(took "$made/script")
-  awk -v n="$pages" -v o="$opening" -v w="$writes" -v r="$reads" 'BEGIN { printf "%-34s %12d %14.1f %12.1f\n", n, o, (w - o) * 2, (r - o) / 2 }'
+  # The record of a page has its shard, so that a log has room for few of a large one.
+  writes=$((pages > 512 ? 500 : 4000))
+  for ((i = 0; i < writes; i++)); do printf 'write 1.0_head a %d fill:5b:4096\nwait\n' $((i * 7919 % pages * 4096)); done >"$made/script"
+  write=$(ratio $((1000 * ($(took "$made/script") - opening))) "$writes")
+  for ((i = 0; i < 8000; i++)); do printf 'read 1.0_head a %d 4096\n' $((i * 7919 % pages * 4096)); done >"$made/script"
+  read=$(ratio $((1000 * ($(took "$made/script") - opening))) 8000)
+  is_time "a page, of $pages" "$write"
+  is_time "a read, of $pages" "$read"
+  awk -v n="$pages" -v o="$opening" -v w="$write" -v r="$read" 'BEGIN { printf "%-34s %12d %14.1f %12.1f\n", n, o, w, r }'
+  case $pages in
+    1) one_page=$write one_read=$read ;;
+    512) wanted 'a page over one of an object of 512, against 1' "$(ratio "$write" "$one_page")" 'at most' 4 ;;
+    32768)
+      wanted 'a page over one of an object of 32768, against 1' "$(ratio "$write" "$one_page")" 'at most' 60
+      wanted 'a read of an object of 32768 pages, against 1' "$(ratio "$read" "$one_read")" 'at most' 1.6
+      ;;
+  esac
 done
+! grep -q BEYOND "$made/told"

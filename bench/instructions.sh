@@ -74,5 +74,5 @@ told 'opening an empty half of 65536 units' 48600000 "$(counted "$made/empty")"
   echo 'mkcoll 1.0_head'
   for ((i = 0; i < 8000; i++)); do printf 'write 1.0_head o%05d 0 fill:%02x:4096\n' $((i * 2477 % 8000)) $((i % 256)); done
 } | set_up 8192 30000
-told 'opening 8000 objects of a record each, scrambled' 61900000 "$(counted "$made/empty")"
+told 'opening 8000 objects of a record each, scrambled' 63500000 "$(counted "$made/empty")"
 ! grep -q BEYOND "$made/told"

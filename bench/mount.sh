@@ -1,7 +1,8 @@
 #!/usr/bin/env bash
 # Times opening a store, beside reading its half of the log with dd, in one run: the seconds of each, the ratio, and the program's peak memory.
 # First a store of the most units, 1048576, with halves of 65536 units, on a sparse file: mkfs, and a step without a command. Then a store whose log has
-# as many records as are asked for. Three turns, the best of each. Usage: bench/mount.sh [RECORDS] [FOLDER ON THE DISK]
+# as many records as are asked for. Five turns, each in an order drawn anew, the middle one of the times. It says what is wanted of each, and
+# ends with status 1 where one is beyond that. Usage: bench/mount.sh [RECORDS] [FOLDER ON THE DISK]
 set -eu
 here=$(cd "$(dirname "${BASH_SOURCE[0]}")" && pwd)
 . "$here/about.sh"
@@ -14,30 +15,36 @@ about
 
 now() { date +%s%N; }
 
-# says SECONDS OF OURS, SECONDS OF DD, KIBIBYTES OF MEMORY
-says() {
-  awk -v name="$1" -v a="$2" -v b="$3" -v m="$4" 'BEGIN {
-    printf "%-24s %.3f s, dd of the half %.3f s, ratio %.1f, peak memory %.0f MiB\n", name, a / 1e9, b / 1e9, a / b, m / 1024
-  }'
+# turn_of WHO: an empty script on the device of the half, or dd of its first half
+turn_of() {
+  local began
+  began=$(now)
+  if [ "$1" = peer ]; then
+    "${ahead[@]}" dd if="$disk" of=/dev/null bs=256K skip=8192 iflag=skip_bytes count=$((half / 64)) status=none
+  else
+    "${ahead[@]}" /usr/bin/env time -f %M -o "$made/memory" "$program" step "$disk" --seed "$turn" "$made/empty" >"$made/output" ||
+      { cat "$made/output"; exit 1; }
+    tail -n 1 "$made/memory" >>"$made/peaks"
+  fi
+  echo "$1 $(($(now) - began))" >>"$made/times"
 }
 
-# opens NAME DEVICE HALF: an empty script on the device, and dd of its first half
+# opens NAME DEVICE HALF
 opens() {
-  local name=$1 disk=$2 half=$3 best_ours=0 best_peer=0 peak=0 began
-  for turn in 1 2 3; do
-    began=$(now)
-    /usr/bin/env time -f %M -o "$made/memory" "$program" step "$disk" --seed "$turn" "$made/empty" >"$made/output" || { cat "$made/output"; exit 1; }
-    local ours=$(($(now) - began))
-    began=$(now)
-    dd if="$disk" of=/dev/null bs=256K skip=8192 iflag=skip_bytes count=$((half / 64)) status=none
-    local peer=$(($(now) - began)) memory
-    memory=$(tail -n 1 "$made/memory")
-    if [ "$best_ours" = 0 ] || [ "$ours" -lt "$best_ours" ]; then best_ours=$ours; fi
-    if [ "$best_peer" = 0 ] || [ "$peer" -lt "$best_peer" ]; then best_peer=$peer; fi
-    if [ "$memory" -gt "$peak" ]; then peak=$memory; fi
+  local disk=$2 half=$3 turn who ours peer peak
+  rm -f "$made/times" "$made/peaks"
+  for turn in 1 2 3 4 5; do
+    for who in $(shuf -e ours peer); do turn_of "$who"; done
   done
-  says "$name" "$best_ours" "$best_peer" "$peak"
+  ours=$(middle ours)
+  peer=$(middle peer)
+  peak=$(sort -n "$made/peaks" | tail -n 1)
+  awk -v name="$1" -v a="$ours" -v b="$peer" -v m="$peak" 'BEGIN {
+    printf "%-24s %.3f s, dd of the half %.3f s, ratio %.1f, peak memory %.0f MiB\n", name, a / 1e9, b / 1e9, a / b, m / 1024
+  }'
   tail -n 1 "$made/output"
+  wanted "$1: opening against dd of the half" "$(ratio "$ours" "$peer")" 'at most' 2.5
+  wanted "$1: peak memory, in MiB" "$(ratio "$peak" 1024)" 'at most' 8
 }
 
 began=$(now)
@@ -53,3 +60,4 @@ opens 'an empty log' "$made/large" 65536
 "$program" step "$made/disk" --seed 1 "$made/script" >"$made/output"
 [ "$(tail -n 1 "$made/output" | cut -d' ' -f1-2)" = "done accepted=$count" ] || { tail -n 1 "$made/output"; exit 1; }
 opens "$count records" "$made/disk" 65536
+! grep -q BEYOND "$made/told"

@@ -7,6 +7,7 @@
 #   each against one over 1000 (wanted: at most 1.5 times);
 # - opening a store whose log has 16,000 records of pairs, against one whose records of pages have as many bytes (wanted: at most 1.2 times);
 # - the peak memory of `dump` of 200 MB of pairs in 40 objects, against that of opening the store (wanted: at most 10 MiB more).
+# Turns are taken in an order drawn anew. It says of each whether it is as wanted, and ends with status 1 where one is beyond that.
 # Usage: bench/omap.sh [TRANSACTIONS] [FOLDER ON THE DISK] [TURNS] [FOLDER IN MEMORY] [A PROGRAM]
 set -eu
 here=$(cd "$(dirname "${BASH_SOURCE[0]}")" && pwd)
@@ -39,28 +40,41 @@ timed() {
   local began
   "$program" mkfs "$made/disk" --half "$half" --units "$units" >/dev/null
   began=$(now)
-  "$program" step "$made/disk" --seed "$turn" "$made/$2" >"$made/output" || { tail -n 2 "$made/output"; exit 1; }
+  "${ahead[@]}" "$program" step "$made/disk" --seed "$turn" "$made/$2" >"$made/output" || { tail -n 2 "$made/output"; exit 1; }
   echo "$1 $(($(now) - began))" >>"$made/times"
   ended "$made/output" "done accepted=$3 "
 }
 
+# turn_of WHO: its part of a turn
+turn_of() {
+  case $1 in
+    ours) timed ours script $((count + 2)) ;;
+    refused) timed refused refused 2 ;;
+    peer) echo "peer $("${ahead[@]}" "$made/loop" "$made/file" "$count" 4096 0)" >>"$made/times" ;;
+  esac
+}
+
 about
 for ((turn = 1; turn <= turns; turn++)); do
-  timed ours script $((count + 2))
-  timed refused refused 2
-  echo "peer $("$made/loop" "$made/file" "$count" 4096 0)" >>"$made/times"
+  for who in $(shuf -e ours refused peer); do turn_of "$who"; done
 done
-sort -k1,1 -k2,2n "$made/times" | awk -v n="$count" -v turns="$turns" '
+ours=$(longer ours refused)
+is_time 'transactions of a pair' "$ours"
+sort -k1,1 -k2,2n "$made/times" | awk -v n="$count" -v turns="$turns" -v middle="$ours" '
   { time[$1, ++seen[$1]] = $2 }
   function half_of(who) { return (time[who, int((turns + 1) / 2)] + time[who, int(turns / 2) + 1]) / 2 }
   END {
     least = time["ours", 1] - time["refused", 1]
-    middle = half_of("ours") - half_of("refused")
+    rounds = least > 0 ? 1 / least : 0
     printf "transactions of a pair, %d in a turn, %d turns\n", n, turns
     printf "bstore step   %.0f a second, ratio %.2f; p50 %.0f a second, %.0f us each, ratio %.2f\n",
-      n * 1e9 / least, time["peer", 1] / least, n * 1e9 / middle, middle / n / 1e3, half_of("peer") / middle
+      n * 1e9 * rounds, time["peer", 1] * rounds, n * 1e9 / middle, middle / n / 1e3, half_of("peer") / middle
     printf "plain loop, C %.0f a second; p50 %.0f a second, %.0f us each\n", n * 1e9 / time["peer", 1], n * 1e9 / half_of("peer"), half_of("peer") / n / 1e3
   }'
+
+wanted 'transactions of a pair against rounds of the plain loop' "$(ratio "$(middle peer)" "$ours")" 'at least' 0.7
+"$program" mkfs "$made/disk" --half "$half" --units "$units" >/dev/null
+flushes_of 'flushes in a transaction' 1 $((count + 2)) "$made/disk" "$made/script"
 
 # ---- transactions over many pairs and over many objects
 
@@ -70,7 +84,7 @@ took() {
   rm -f "$fast/times"
   for ((turn = 1; turn <= 21; turn++)); do
     cp --sparse=always "$fast/disk" "$fast/work"
-    { time "$program" step "$fast/work" --seed "$turn" "$1" >"$fast/output"; } 2>>"$fast/times" || { tail -n 2 "$fast/output" >&2; exit 1; }
+    { time "${ahead[@]}" "$program" step "$fast/work" --seed "$turn" "$1" >"$fast/output"; } 2>>"$fast/times" || { tail -n 2 "$fast/output" >&2; exit 1; }
     ended "$fast/output" 'done accepted='
   done
   awk '{ t = 1000 * ($1 + $2); if (NR == 1 || t < least) least = t } END { printf "%d", least }' "$fast/times"
@@ -119,7 +133,9 @@ costs() {
 
 # compares NAME FEW MANY
 compares() {
+  is_time "$1" "$2"
   awk -v name="$1" -v few="$2" -v many="$3" 'BEGIN { printf "%-34s %8.1f us   over 1000 %8.1f us   ratio %.2f\n", name, many, few, many / few }'
+  wanted "$1, against 1000" "$(ratio "$3" "$2")" 'at most' 1.5
 }
 
 for count in 1000 100000; do
@@ -148,6 +164,7 @@ of_pages=$(took "$fast/empty")
 } | set_up
 of_pairs=$(took "$fast/empty")
 awk -v n="$records" -v a="$of_pairs" -v b="$of_pages" 'BEGIN { printf "opening, %d records of pairs      %8d ms   of pages  %8d ms   ratio %.2f\n", n, a, b, a / b }'
+wanted 'opening records of pairs, against those of pages' "$(ratio "$of_pairs" "$of_pages")" 'at most' 1.2
 
 # ---- dump
 
@@ -175,3 +192,5 @@ dumped=$(peak dump "$fast/disk")
 awk -v a="$dumped" -v b="$opened" -v size="$(stat -c %s "$fast/output")" 'BEGIN {
   printf "dump of %.0f MB of pairs          %8.1f MiB   opened  %8.1f MiB   %.1f MiB more\n", size / 2e6, a / 1024, b / 1024, (a - b) / 1024
 }'
+wanted 'peak memory of a dump of pairs beside that of the store, in MiB' "$(ratio $((dumped - opened)) 1024)" 'at most' 10
+! grep -q BEYOND "$made/told"

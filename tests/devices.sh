@@ -89,6 +89,12 @@ cp NEW TWO
 run step TWO --seed 1 script
 says 'two transactions' ended 0 '0:1 ok' '0:3 ok' 'done accepted=2 refused=0 reads=0 commits=2 free=45'
 
+# Each other case begins with these two stores.
+[ "$failed" = 0 ] || {
+    counts
+    exit
+}
+
 # ---- the calls of good runs: one flush at the opening, before anything is read or written; then two for each transaction with
 # data, between data and record and behind the record, and one for each without
 
@@ -138,6 +144,19 @@ script_drops_pages() {
     says 'the script: the dump' ended 0 'coll 1.0_head' 'object a size 4096 crc 37f18c49' 'end'
     says 'the script: written, dropped, and then flushed and read' test "$(grep '/PAGES>' trace |
         sed -E 's/^[0-9]+ +//; s/.*DONTNEED.*/drop/; s/\(.*//' | uniq | tr '\n' ' ')" = 'fdatasync drop fsync pread64 '
+}
+
+# It finds the device behind options, be their numbers in the same word or in the next.
+script_finds_device() {
+    local words
+    cp TWO PAGES
+    for words in 'step --seed 1 PAGES empty' 'step --seed=1 -- PAGES empty' 'dump -- PAGES'; do
+        # shellcheck disable=SC2086
+        timeout 60 strace -f -qq -y -o trace -e trace=fadvise64 "$top/bstore" $words >output 2>complaints </dev/null
+        status=$?
+        says "the script: $words" is_one_of 0
+        says "the script: $words: the pages are dropped" grep -q '/PAGES>.*DONTNEED' trace
+    done
 }
 
 # dump_to FILE: dumps the store MANY into this file, with its reads of the device in the file 'trace', and counts them in 'reads'.
@@ -269,6 +288,8 @@ refuses_others() {
     ended 7 'stopped 7' || good=no
     run dump "$device"
     ended 7 'stopped 7' || good=no
+    run fsck "$device"
+    ended 7 'stopped 7' || good=no
     run mkfs "$device" --half 8 --units 19
     ended 7 'stopped 7' || good=no
     cmp -s "$device" "${device}_BEFORE" && [ "$good" = yes ]
@@ -305,13 +326,44 @@ two_programs() {
     held_up 'a dump at its first read' pread64 dump FIRST
 }
 
-for it in calls_of_good_runs calls_of_seeds script_drops_pages full_output failing_writes_and_flushes failing_openings killed_runs two_programs; do
+for it in calls_of_good_runs calls_of_seeds script_drops_pages script_finds_device full_output failing_writes_and_flushes failing_openings killed_runs two_programs; do
     if [ "$can_trace" = yes ]; then
         "$it"
     else
         skips "${it//_/ }" "strace can't trace a program here: $(head -n 1 probe_complaints)"
     fi
 done
+
+# ---- a lock that is held for a moment, as by a watcher of the system that looks at a device which was closed behind a write
+
+# lock_for SECONDS FILE: another process has a shared lock of the file from now on for so long, by the descriptor that it inherits.
+lock_for() {
+    local holder
+    exec {holder}<"$2"
+    flock -s "$holder"
+    sleep "$1" &
+    stopped+=("$!")
+    exec {holder}<&-
+}
+
+cp TWO MOMENT
+lock_for 0.05 MOMENT
+run step MOMENT --seed 1 empty
+says 'a lock of a moment: step' ended 0 'done accepted=0 refused=0 reads=0 commits=0 free=45'
+lock_for 0.3 MOMENT
+run dump MOMENT
+says 'a lock of a moment: dump' ended 0 'coll 1.0_head' 'object a size 4096 crc 37f18c49' 'end'
+lock_for 0.3 MOMENT
+run mkfs MOMENT "${small[@]}"
+says 'a lock of a moment: mkfs' ended 0 "$made"
+cp TWO MOMENT
+lock_for 3 MOMENT
+began=$(date +%s%N)
+run mkfs MOMENT --half 8 --units 19
+waited=$((($(date +%s%N) - began) / 1000000))
+says 'a lock of three seconds' ended 7 'stopped 7'
+says 'a lock of three seconds: nothing was changed' cmp -s MOMENT TWO
+says 'a lock of three seconds: it was asked for again for a second' test "$waited" -ge 900
 
 # This shell's own lock, without a trace.
 exec {holder}<TWO
@@ -407,6 +459,36 @@ block_devices() {
 }
 block_devices
 
+# is_kept_mounted NAME: by this name each command of ./bstore is refused, and the disk is as it was.
+is_kept_mounted() {
+    local command good=yes
+    for command in "mkfs $1 --half 8 --units 4096" "mkfs --units=4096 --half 8 $1" "step --seed 1 $1 empty" "dump $1" "fsck -- $1"; do
+        # shellcheck disable=SC2086
+        timeout 60 "$top/bstore" $command >output 2>complaints </dev/null
+        [ $? = 125 ] && [ ! -s output ] && grep -q 'is mounted at .*/mounted' complaints || good=no
+    done
+    [ "$good" = yes ] && cmp -s DISK_16777216 mounted_before
+}
+
+# A file system on a block device of 4096 units, and a second node of that.
+mounted_device() {
+    mkdir mounted
+    loop_device 16777216 && mkfs.ext4 -q "$device" 2>/dev/null && mount -o ro "$device" mounted 2>/dev/null || {
+        skips 'a mounted device' 'no file system can be made and mounted here'
+        return
+    }
+    mounts+=("$room/mounted")
+    cp DISK_16777216 mounted_before
+    says 'a mounted device: it is refused' is_kept_mounted "$device"
+    mknod NODE b $((0x$(stat -c %t "$device"))) $((0x$(stat -c %T "$device")))
+    says 'a mounted device: it is refused by another node' is_kept_mounted NODE
+    umount "$room/mounted"
+    timeout 60 "$top/bstore" mkfs NODE --half 8 --units 4096 >output 2>complaints </dev/null
+    status=$?
+    says 'a mounted device: it is taken once it is not mounted' ended 0 'mkfs units=4096 half=8 data=4078'
+}
+mounted_device
+
 # ---- names that stand for no device
 
 # is_no_device NAME: each command stops, at once.
@@ -415,6 +497,8 @@ is_no_device() {
     run mkfs "$1" "${small[@]}"
     ended 7 'stopped 7' || good=no
     run step "$1" --seed 1 script
+    ended 7 'stopped 7' || good=no
+    run fsck "$1"
     ended 7 'stopped 7' || good=no
     run dump "$1"
     ended 7 'stopped 7' && [ "$good" = yes ]

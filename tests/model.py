@@ -3,19 +3,22 @@
 that is written here from the documents and shares nothing with the crates: each reply, the last line, `dump`, and the device, read byte
 by byte. The model draws from the seed what comes next, as the program does, so it knows in which order clients and steps come. The
 device must have exactly the objects and records of the model, each page must have its checksum, and the bitmap must have exactly the
-units that objects own. One run in seven is killed at some moment: then the device must be that of the model after some of the commits,
-from the first on. Before these rounds the program runs scripts whose replies were reckoned by hand.
+units that objects own. One run in seven is killed at one of its calls, a write or a flush of the device or a write of replies, which is
+drawn: then the device must be that of the model after some of the commits, from the first on, with all whose second flush had returned, and
+all that the replies call `ok`. Where strace can't trace a program these runs are whole ones, which is said. Before these rounds the program
+runs scripts whose replies were reckoned by hand.
 
 Usage: tests/model.py [ROUNDS] [SEED] [PROGRAM], or tests/model.py --self-test, which runs the model alone on the scripts whose replies
 were reckoned by hand. It ends with status 1 where something differs, and says in which round."""
 
 import os
 import random
+import re
+import shutil
 import struct
 import subprocess
 import sys
 import tempfile
-import time
 from collections import deque
 from dataclasses import dataclass, field, replace
 from functools import partial
@@ -114,7 +117,7 @@ def escaped(name):
 @dataclass
 class Transaction:
     """An accepted transaction: its collection and what that has after it, the units that it takes and releases, how many its record
-    has, and whose it is. Of its data writes, so many are submitted, and so many have ended."""
+    has, whose it is, and the line of its reply. Of its data writes, so many are submitted, and so many have ended."""
 
     coll: bytes
     objects: dict
@@ -122,6 +125,7 @@ class Transaction:
     released: list
     record: int
     client: object = None
+    line: int = 0
     sent: int = 0
     ended: int = 0
 
@@ -448,20 +452,26 @@ class Batch:
 
 class Kernel:
     """The table of steps of docs/steps.md over a store, on a device that does each submission at once and gives the ends in order. It
-    keeps the stores of devices with each front of the commits."""
+    keeps the stores of devices with each front of the commits, and of each commit its transaction, and how many flushes of the device had
+    been called when its second one had. A flush with no write since the last one isn't called."""
 
     def __init__(self, store):
-        self.store, self.commits = store, [store.copy()]
+        self.store, self.commits, self.committed = store, [store.copy()], []
         self.pending, self.flying, self.batch, self.applied = [], deque(), None, deque()
+        self.flushes, self.is_dirty = 0, False
 
-    def submit(self, client, command):
+    def submit(self, client, line, command):
         """The reply to a command. A transaction that is accepted waits in the kernel, for its client."""
         self.store.accepted = None
         reply = getattr(self.store, command[0])(*command[1:])
         if self.store.accepted:
-            self.store.accepted.client = client
+            self.store.accepted.client, self.store.accepted.line = client, line
             self.pending.append(self.store.accepted)
         return reply
+
+    def call_flush(self):
+        self.flushes += self.is_dirty
+        self.is_dirty = False
 
     def next_unsent(self):
         return next((it for it in self.pending if it.sent < it.writes), None)
@@ -494,6 +504,7 @@ class Kernel:
     def data(self):
         it = self.next_unsent()
         it.sent += 1
+        self.is_dirty = True
         self.flying.append((it, "ended"))
 
     def reap(self):
@@ -506,6 +517,7 @@ class Kernel:
 
     def flush(self):
         self.batch.first = 1
+        self.call_flush()
         self.flying.append((self.batch, "first"))
 
     def seal(self):
@@ -513,16 +525,19 @@ class Kernel:
 
     def record(self):
         self.batch.given += 1
+        self.is_dirty = True
         self.flying.append((self.batch, "written"))
 
     def sync(self):
         self.batch.second = 1
+        self.call_flush()
         self.flying.append((self.batch, "second"))
 
     def commit(self):
         it = self.batch.transaction
         self.store.free |= set(it.released)
         self.commits.append(self.commits[-1].with_commit(it))
+        self.committed.append((it, self.flushes))
         self.applied.append(it)
         self.batch = None
 
@@ -546,14 +561,13 @@ class Client:
     def make(self, kernel):
         """Makes its next command."""
         line, command = self.left.popleft()
-        reply = kernel.submit(self, command)
+        reply = kernel.submit(self, line, command)
         self.waits_for += reply == "ok"
         self.replies.append((line, reply))
 
 
 def run(store, scripts, seed):
-    """What is to be printed of a run of these scripts, one a client, and the stores of devices with each front of its commits. The store
-    becomes that behind the run."""
+    """What is to be printed of a run of these scripts, one a client, and the kernel behind it. The store becomes that behind the run."""
     kernel, clients, drawn = Kernel(store), [Client(script) for script in scripts], seed
     while choices := [partial(it.make, kernel) for it in clients if it.is_ready()] + kernel.ready():
         drawn = (6364136223846793005 * drawn + 1442695040888963407) % 2**64
@@ -563,7 +577,9 @@ def run(store, scripts, seed):
     refused = sum(reply.startswith("E") for _, _, reply in replies)
     told = f"accepted={accepted} refused={refused} reads={len(replies) - accepted - refused} commits={len(kernel.commits) - 1}"
     lines = [f"{number}:{line} {reply}" for number, line, reply in replies]
-    return [*lines, f"done {told} free={len(store.free)}"], kernel.commits
+    for number, client in enumerate(clients):
+        client.number = number
+    return [*lines, f"done {told} free={len(store.free)}"], kernel
 
 
 # ---- the device
@@ -854,25 +870,54 @@ def expect_same(found, wanted, what):
     expect(len(found) == len(wanted), f"{what} has {len(found)} lines, not {len(wanted)}")
 
 
-def killed_run(dice, program, seed, names, commits):
-    """Runs the scripts for some time, and returns the store that the device then has."""
-    ran = subprocess.Popen([program, "step", "device", "--seed", str(seed), *names], stdout=subprocess.DEVNULL)
-    time.sleep(dice.random() * 0.004)
-    ran.kill()
-    ran.wait()
+def traced(*words):
+    """A program under strace: the writes and flushes that it called, one behind the other, and the run."""
+    tracer = ["strace", "-qq", "-s", "0", "-o", "trace", "-e", "trace=pwrite64,fdatasync,write"]
+    ran = subprocess.run([*tracer, *words], capture_output=True, text=True, check=False)
+    with open("trace", encoding="ascii") as it:
+        return re.findall(r"^(\w+)\(", it.read(), re.MULTILINE), ran
+
+
+def can_trace():
+    with tempfile.TemporaryDirectory() as room:
+        tracer = ["strace", "-qq", "-o", f"{room}/trace", "-e", "inject=getuid:error=EPERM", "true"]
+        try:
+            return subprocess.run(tracer, capture_output=True, check=False).returncode == 0
+        except FileNotFoundError:
+            return False
+
+
+def killed_run(dice, program, seed, names, wanted, kernel):
+    """Runs the scripts up to one of the run's calls, and returns the store that the device then has. Which calls there are is seen of a run
+    on a copy. The first ones may be those of the opening, which clears what the last kill left behind the records."""
+    shutil.copy("device", "copy")
+    calls, _ = traced(program, "step", "copy", "--seed", str(seed), *names)
+    kind = dice.choice(sorted(set(calls)))
+    last = dice.choice([at for at, call in enumerate(calls) if call == kind])
+    inject = f"inject={kind}:signal=KILL:when={calls[: last + 1].count(kind)}"
+    made, ran = traced("-e", inject, program, "step", "device", "--seed", str(seed), *names)
+    expect(ran.returncode == -9 and made[:last] == calls[:last], f"the run was killed at call {len(made)} and not at {last + 1}")
+    text = "".join(f"{line}\n" for line in wanted)
+    expect(text.startswith(ran.stdout), f"it printed {ran.stdout[-80:]!r}")
+    stable = calls[:last].count("fdatasync") - (calls.count("fdatasync") - kernel.flushes)
+    said = {line.split()[0] for line in ran.stdout.splitlines() if line.endswith(" ok")}
+    acked = [flushes <= stable or f"{it.client.number}:{it.line}" in said for it, flushes in kernel.committed]
     left = Device("device")
-    found = next((store for store in commits if left.is_of(store)), None)
-    expect(found, "the device of a run that was killed is that of no front of the commits")
-    return found.copy()
+    front = next((number for number, store in enumerate(kernel.commits) if left.is_of(store)), None)
+    expect(front is not None, "the device of a run that was killed is that of no front of the commits")
+    expect(not any(acked[front:]), f"the device has {front} commits, and more were acknowledged")
+    expect_same(printed(program, "fsck", "device"), ["findings 0"], "fsck")
+    return kernel.commits[front].copy()
 
 
 def whole_run(program, seed, names, wanted, store):
     expect_same(printed(program, "step", "device", "--seed", str(seed), *names), wanted, "step")
     expect(Device("device").is_of(store), "the device has other objects or records")
     expect_same(printed(program, "dump", "device"), store.dump(), "dump")
+    expect_same(printed(program, "fsck", "device"), ["findings 0"], "fsck")
 
 
-def play(program, seed):
+def play(program, may_trace, seed):
     """A round: a new store, and some runs on it."""
     dice = random.Random(seed)
     half = dice.choice([8, 12, 40, 200])
@@ -885,9 +930,9 @@ def play(program, seed):
             with open(name, "w", encoding="ascii") as it:
                 it.write("\n".join(lines) + dice.choice(["", "\n", "\n"]))
         drawn = dice.randrange(2**32)
-        wanted, commits = run(store, [commands for _, commands in scripts], drawn)
-        if dice.random() < 0.15:
-            store = killed_run(dice, program, drawn, names, commits)
+        wanted, kernel = run(store, [commands for _, commands in scripts], drawn)
+        if dice.random() < 0.15 and may_trace:
+            store = killed_run(dice, program, drawn, names, wanted, kernel)
         else:
             whole_run(program, drawn, names, wanted, store)
 
@@ -1032,9 +1077,10 @@ CHECKS = [(64, PAGES_OF_TWO, seed, NO_TOUCH) for seed in range(8)] + [
 
 def check(units, scripts, seed, wanted):
     store = Store(units, 8)
-    found, commits = run(store, [read_script(script) for script in scripts], seed)
+    found, kernel = run(store, [read_script(script) for script in scripts], seed)
     expect_same(found, wanted.split(", "), f"seed {seed}")
-    expect(commits[-1].colls == store.colls and commits[-1].free == store.free, f"seed {seed}: the last commit leaves another store")
+    last = kernel.commits[-1]
+    expect(last.colls == store.colls and last.free == store.free, f"seed {seed}: the last commit leaves another store")
 
 
 def check_program(program, units, scripts, seed, wanted):
@@ -1069,7 +1115,10 @@ def main():
     if not os.access(program, os.X_OK):
         subprocess.run([f"{top}/bstore"], stdout=subprocess.DEVNULL, check=False)
     tries = [("the program, scripts reckoned by hand", partial(check_program, program, *it)) for it in CHECKS]
-    tries += [(f"the model, round of seed {seed + number}", partial(play, program, seed + number)) for number in range(rounds)]
+    may_trace = can_trace()
+    if not may_trace:
+        print("skipped runs that are killed: strace can't trace a program here")
+    tries += [(f"the model, round of seed {seed + number}", partial(play, program, may_trace, seed + number)) for number in range(rounds)]
     with tempfile.TemporaryDirectory() as room:
         os.chdir(room)
         passed = all_pass(tries)

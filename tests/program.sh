@@ -42,6 +42,11 @@ says 'a folder' ended 7 'stopped 7'
 
 run mkfs SMALL --half 8 --units 18
 says 'too few units' ended 4 'mkfs TooSmall units=18 need=19' 'stopped 4'
+says 'too few units: no device is made' test ! -e SMALL
+cp FRESH KEPT
+run mkfs KEPT --half 40 --units 20
+says 'too few units over a good store' ended 4 'mkfs TooSmall units=20 need=83' 'stopped 4'
+says 'too few units over a good store: it is as it was' cmp -s KEPT FRESH
 run mkfs LEAST --half 8 --units 19
 says 'just enough units' ended 0 'mkfs units=19 half=8 data=1'
 
@@ -80,16 +85,24 @@ says 'a missing word' is_refused mkfs DEV --half 8 --units
 says 'an extra word' is_refused mkfs DEV --half 8 --units 64 more
 says 'another command' is_refused mkfz DEV --half 8 --units 64
 says 'help' is_refused --help
-says 'another order' is_refused mkfs --half 8 --units 64 DEV
-says 'numbers in another order' is_refused mkfs DEV --units 64 --half 8
 says 'an empty name' is_refused mkfs '' --half 8 --units 64
 says 'a name that begins with a dash' is_refused mkfs -DEV --half 8 --units 64
 says 'a name that is not text' is_refused mkfs $'DEV\xff' --half 8 --units 64
-for half in 7 65537 08 +8 -8 ' 8' '8 ' 8.0 0x8 '' 4294967304; do
+for half in 7 65537 -8 ' 8' '8 ' 8.0 0x8 '' 4294967304; do
     says "half '$half'" is_refused mkfs DEV --half "$half" --units 64
 done
-for units in 0 1048577 064 +64 -64 64k '' 4294967360 18446744073709551680; do
+for units in 0 1048577 -64 64k '' 4294967360 18446744073709551680; do
     says "units '$units'" is_refused mkfs DEV --half 8 --units "$units"
+done
+says 'prefer beyond the most' is_refused mkfs DEV --half 8 --units 64 --prefer 1048577
+
+# Options stand anywhere, in any order, and numbers may have zeros or a plus in front.
+for words in '--half 8 --units 64 ORDER' 'ORDER --units 64 --half 8' '--units=064 ORDER --half +8' '--half 08 --units +64 -- ORDER'; do
+    # shellcheck disable=SC2086
+    run mkfs $words
+    says "mkfs $words" ended 0 "$made"
+    says "mkfs $words: the same store" cmp -s ORDER FRESH
+    rm -f ORDER
 done
 
 # ---- step
@@ -644,6 +657,19 @@ says 'dump: no device named' is_refused dump
 says 'dump: two devices' is_refused dump T HOLE
 says 'dump: a name that begins with a dash' is_refused dump -T
 
+# What is wrong with a store is told, and nothing is changed, also where a mount would clear what stands behind the records.
+run fsck T
+says 'fsck: a good store' ended 0 'findings 0'
+with_record WRONG "$(turn 21)" "$(turn 30)"
+printf 'stale' | dd of=WRONG bs=1 seek=$((4096 * 9)) conv=notrunc status=none
+cp WRONG WRONG_BEFORE
+run fsck WRONG
+says 'fsck: two units that nobody owns' ended 4 'Leaked unit=21' 'Leaked unit=30' 'findings 2'
+says 'fsck: the store is as it was' cmp -s WRONG WRONG_BEFORE
+run fsck /dev/null
+says 'fsck: no device' ended 7 'stopped 7'
+says 'fsck: no device named' is_refused fsck
+
 # What stands behind the records, in units 4 and 9, is zeros once the store was opened, and nothing else has changed.
 cp T STALE
 printf 'stale' | dd of=STALE bs=1 seek=$((4096 * 4)) conv=notrunc status=none
@@ -736,11 +762,86 @@ status=$?
 says 'step: a full output' is_one_of 6
 says 'step: a full output: the same store' cmp -s OUT BEFORE
 
+# What a run has written and been acknowledged isn't in memory any more: the address space has room for less than half of it.
+"$program" mkfs LARGE --half 128 --units 1024 >/dev/null
+{ echo 'mkcoll 1.0_head'; for n in $(seq 65); do printf 'write 1.0_head a 0 fill:%02x:1048576\nwait\n' "$n"; done; } >large
+(ulimit -v 30000 && exec "$program" step LARGE --seed 1 large) >output 2>complaints </dev/null
+status=$?
+says 'step: 65 MiB in an address space of 29 MiB' is_one_of 0
+says 'step: its last line' test "$(tail -n 1 output)" = 'done accepted=66 refused=0 reads=0 commits=66 free=510'
+
+# ---- an output that doesn't block
+
+# Runs a program whose output is a pipe that doesn't block, and copies what comes of it, slowly, so that the pipe is often full. Ends with
+# the status of the program.
+cat >slow.py <<'END'
+import os
+import subprocess
+import sys
+import time
+
+taking, giving = os.pipe()
+os.set_blocking(giving, False)
+ran = subprocess.Popen(sys.argv[1:], stdin=subprocess.DEVNULL, stdout=giving)
+os.close(giving)
+time.sleep(0.2)
+while piece := os.read(taking, 8192):
+    sys.stdout.buffer.write(piece)
+    time.sleep(0.001)
+sys.exit(ran.wait())
+END
+
+# 400,000 digits, where a pipe has room for 65,536 bytes.
+printf 'read 1.0_head a 0 200000\nstat 1.0_head a\n' >digits
+run step PAGES --seed 1 digits
+says 'an output that does not block: a long one' test "$status:$(wc -c <output)" = 0:400079
+cp output whole
+timeout 60 python3 slow.py "$program" step PAGES --seed 1 digits >output 2>complaints </dev/null
+status=$?
+says 'an output that does not block: the run ends well' is_one_of 0
+says 'an output that does not block: nothing is lost' cmp -s output whole
+
+# ---- memory
+
+# is_limited PROGRAM: it may have no more memory than the machine has.
+is_limited() {
+    awk -v total="$(awk '$1 == "MemTotal:" { printf "%.0f", 1024 * $2 }' /proc/meminfo)" '
+        /^Max address space/ { found = $4 != "unlimited" && $4 + 0 <= total + 0 }
+        END { exit !found }' "/proc/$1/limits"
+}
+
+# Whether ./bstore limits the program: the run is looked at while it waits for its script.
+limits_memory() {
+    local it turn limited=no
+    mkfifo WAITING
+    "$top/bstore" step T --seed 1 WAITING >output 2>complaints </dev/null &
+    it=$!
+    for ((turn = 0; turn < 200; turn++)); do
+        [ "$(readlink "/proc/$it/exe")" != "$program" ] || break
+        sleep 0.1
+    done
+    is_limited "$it" && limited=yes
+    : >WAITING
+    wait "$it"
+    status=$?
+    [ "$limited:$status" = yes:0 ]
+}
+says 'memory: ./bstore limits the program to what there is' limits_memory
+
+# The bytes of the read, and their digits, take 384 MiB. The limit is of 128 MiB.
+printf '%s\n' 'mkcoll 1.0_head' 'touch 1.0_head a' 'truncate 1.0_head a 134217728' wait 'stat 1.0_head a' 'read 1.0_head a 0 134217728' \
+    'stat 1.0_head a' >wide
+run mkfs WIDE "${small[@]}"
+(ulimit -v 131072; timeout 60 "$top/bstore" step WIDE --seed 1 wide >output 2>complaints </dev/null)
+status=$?
+says 'memory: a run that wants more than its limit' ended 5 '0:1 ok' '0:2 ok' '0:3 ok' '0:5 size 134217728' 'stopped 5'
+run dump WIDE
+says 'memory: what was acknowledged is there' grep -q '^object a size 134217728 crc ' output
+
 says 'step: no script named' is_refused step DEV --seed 1
 says 'step: 65 scripts' is_refused step DEV --seed 1 $(printf 'script %.0s' {1..65})
 says 'step: no seed' is_refused step DEV script
-says 'step: another order' is_refused step --seed 1 DEV script
-for seed in 4294967296 01 -1 '' x; do
+for seed in 4294967296 -1 '' x; do
     says "step: seed '$seed'" is_refused step DEV --seed "$seed" script
 done
 

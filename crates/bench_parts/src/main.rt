@@ -7,6 +7,8 @@
 //!   call that makes its own; ORDER is `ascending`, `falling` or `scrambled`. They print nanoseconds, whether the last row is there, and
 //!   the bytes that went in.
 //! - `grow ROWS ORDER` applies them one by one, and prints the nanoseconds of all rows, and of the last thousand.
+//!
+//! Proved: nothing but that it is total: it is safe and returns.
 #![tactic(auto)]
 
 use byte_maps::Bytes;

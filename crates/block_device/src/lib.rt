@@ -1,5 +1,8 @@
 //! A raw block device: the trait that a store drives, the log that says what a crash may leave, and
 //! a device in memory, which tells its log and gives those images.
+//!
+//! Proved: what each call does to the log and to what is in flight; which answer a device in memory gives, by its lists of waits and
+//! failing calls; `image` is exactly the image of its tear, and one that a crash allows.
 #![tactic(auto)]
 
 mod device;

@@ -1,5 +1,8 @@
 //! What is known of the book from call to call and along a run, whatever the device is: at each end the book is legal, but for the
 //! bytes that reads gave.
+//!
+//! Proved: each call keeps it; a run makes a legal book; want of space or of room in a run only where its transactions together ask for
+//! more than there was.
 #![tactic(auto)]
 
 mod laws;

@@ -1,5 +1,13 @@
 //! The program: it makes the ends of a store over files and standard output, lets `bstore_top` do the work, and ends with
 //! its status. All text goes to standard output, and none to standard error.
+//!
+//! Proved: where there is no memory for the words of a command line, the status is 5 and `stopped 5` was written, or 6 and the output has
+//! failed (`stop_for_memory`). `main` itself has no clause: its few lines are to be read.
+//!
+//! `main` opens `/dev/null` three times, for reading, before anything else, and keeps what it opened: each opening takes the lowest free
+//! descriptor, so none of 0, 1 and 2 is free for a device afterwards, and a write to an output that was closed fails, which is status 6.
+//! Where `/dev/null` isn't there, the root folder or the current one is opened in its place: a folder takes no bytes either, and one of
+//! them is always there. Where none can be opened no file is opened at all.
 #![tactic(auto)]
 
 ghost use Rattle.std.specs.Prelude.{◌≡◌, ◌⊎◌};
@@ -35,7 +43,7 @@ fn stop_for_memory<K: Sink>(out: &mut K) -> u8
 
 fn main(rt: HostRuntime) -> ExitCode {
     let mut bay = FileBay::new(rt, rt.alloc());
-    let mut out = OutSink::new(rt.stdout());
+    let mut out = OutSink::new(rt.stdout(), rt);
     let status = match words(&rt) {
         Ok(words) => top(rt.alloc(), &words, &mut bay, &mut out, &OpenGate).status,
         Err(AllocError) => stop_for_memory(&mut out),

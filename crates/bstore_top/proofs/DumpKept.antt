@@ -40,6 +40,7 @@ stays_durable given disk fresh stays h objects told stands =
       history = still.history;
       told = still.told;
       started = still.goes_on.same_start;
+      by_now = tt;
       cuts = subst (λ (n : ℕ). EachCutStands n still.history objects empty_book) (ap (λ (l : List Event). length l) none) still.cuts;
     }
 

@@ -118,7 +118,7 @@ walk_ends w BayFault d rows colls now none uncut counted walked = absurd walked
 walk_ends w SinkFault d rows colls now none uncut counted walked = absurd (uncut refl)
 
 -- so was a run that opened no device
-unopened_ends : (end : WorkEnd) (before now : ℕ) → ¬ Rose before now → FailsUnopened end before now → EndsInOrder end
+pub unopened_ends : (end : WorkEnd) (before now : ℕ) → ¬ Rose before now → FailsUnopened end before now → EndsInOrder end
 unopened_ends (Done free) before now same fails = absurd fails
 unopened_ends (BadLine script n) before now same fails = absurd fails
 unopened_ends NoSuper before now same fails = absurd fails

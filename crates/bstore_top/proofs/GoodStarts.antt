@@ -34,14 +34,14 @@ use Rattle.bstore_top.proofs.RunLaws.{clean_of_none}
 
 -- ---- what is found in contents is one
 
-rows_of : (contents : List ℕ) (f : Found) → IsFoundIn contents f → AreRowsOf contents f.sup f.rows
+pub rows_of : (contents : List ℕ) (f : Found) → IsFoundIn contents f → AreRowsOf contents f.sup f.rows
 rows_of contents f is = record { records = is.replay.records; stand = is.replay.stand; made = is.replay.made }
 
 module _ (contents : List ℕ) (f g : Found) (p : IsFoundIn contents f) (q : IsFoundIn contents g) where
-  one_sup : g.sup ≡ f.sup
+  pub one_sup : g.sup ≡ f.sup
   one_sup = same_active contents g.sup f.sup q.active p.active
 
-  one_rows : g.rows ≡ f.rows
+  pub one_rows : g.rows ≡ f.rows
   one_rows = same_rows contents f.sup g.rows f.rows (subst (λ (s : Super). AreRowsOf contents s g.rows) one_sup (rows_of contents g q)) (rows_of contents f p)
 
   one_number : g.number ≡ f.number
@@ -72,7 +72,7 @@ module _ (dev : List ℕ) (names : Names) (start : HasGoodStore names dev) where
       same_rows start.contents found.sup start.stands.rows found.rows read (rows_of start.contents found start.is_found) in
       subst (λ (s : Super). NoBadRow s found.rows) sup (subst (NoBadRow start.stands.super) rows start.stands.good)
 
-  not_no_super : ¬ IsUnopenable fail.NoSuper start.contents
+  pub not_no_super : ¬ IsUnopenable fail.NoSuper start.contents
   not_no_super none = none (start.stands.super.epoch % 2) start.stands.super (omega arith) start.stands.active.here
 
   not_bad_row : (key : List ℕ) → ¬ IsUnopenable (fail.BadRow key) start.contents
@@ -113,7 +113,7 @@ module _ (dev : List ℕ) (names : Names) (start : HasGoodStore names dev) where
       subst (StartsWith given) start.under_dev begun
 
   -- so what a mount says of what it finds is of these
-  about_start : (P : List ℕ → Type 0) (given : Disk) → given.history ≡ Some (record { start = start.contents; log = [] }) → IsAbout given P
+  pub about_start : (P : List ℕ → Type 0) (given : Disk) → given.history ≡ Some (record { start = start.contents; log = [] }) → IsAbout given P
       → P start.contents
   about_start P given told about =
       (subst (λ (o : Option History). IfSome o (λ h. ((unit : ℕ) → IsClean h.log unit) → P (last h.start h.log))) told about) (clean_of_none [] refl)
@@ -192,7 +192,7 @@ module _ (dev : List ℕ) (files : List (List ℕ)) (bay : BayView) (start : IsG
     opened_ends : (e : EndsOpened dev files seed end seen bay bay_new before now) → EndsInOrder end
     opened_ends e = elim e.works [
       | inl failed ↦ unmounted_ends dev start.names start.store end e.given e.faults none_counted told failed.0
-      | inr ran ↦ ran_ends end ran.1.fail (free_count ran.1.last.space) e.faults none_counted ran.0 ran.1.ended
+      | inr ran ↦ ran_ends end ran.1.ran.fail (free_count ran.1.ran.last.space) e.faults none_counted ran.0 ran.1.ran.ended
     ]
       where
         none_counted : e.faults ≡ 0

@@ -1,5 +1,5 @@
 -- What a run leaves of its store: the facts on the kernel's runs, in the words of the whole run.
-use Rattle.std.proofs.Common.{◌≡◌, ℕ, List, [], length, Option, Some, None, refl, sym, ap, subst, inl, inr}
+use Rattle.std.proofs.Common.{◌≡◌, ℕ, List, [], length, Option, Some, None, refl, sym, ap, subst, inl, inr, arith}
 use Rattle.std.specs.Prelude.{IfSome}
 use Rattle.std.specs.FinMap as finite
 use Rattle.block_device.specs.Prelude.{last, Disk, IsFresh}
@@ -17,7 +17,7 @@ use Rattle.script_text.specs.declared.line.Line.{Line}
 use Rattle.command_words.specs.declared.command_line.CommandLine.TheVariants.{Step}
 use Rattle.run_texts.specs.declared.work_end.WorkEnd.{WorkEnd}
 use Rattle.run_texts.specs.Prelude.{has_csum}
-use Rattle.bstore_top.specs.Prelude.{IsDurableFrom, StaysDurable, KeepsStore, EachCrashLeavesPrefix, Seen, FailsToMount, EndsOpened, IsStepDone, empty_book, end_of_mount}
+use Rattle.bstore_top.specs.Prelude.{AreAckedWithin, IsDurableFrom, StaysDurable, KeepsStore, EachCrashLeavesPrefix, Seen, FailsToMount, EndsOpened, IsStepDone, empty_book, end_of_mount}
 use Rattle.bstore_top.proofs.WorkLemmas.{mount_fails}
 use Rattle.bstore_top.proofs.RunLaws.{log_empty, clean_of_none, same_start, RanKept, run_legal, run_no_csum, run_durable_to, run_finished, run_complete}
 
@@ -48,6 +48,7 @@ failed_keeps given disk end book before now fresh cause no_book stays = record {
           history = still.history;
           told = still.told;
           started = still.goes_on.same_start;
+          by_now = subst (λ (b : Book). AreAckedWithin (length still.history.log) b.commits) (sym no_book) tt;
           cuts = subst (λ (b : Book). EachCutStands 0 still.history objects b) (sym no_book)
               (subst (λ (n : ℕ). EachCutStands n still.history objects empty_book) (ap (λ (l : List Event). length l) none) still.cuts);
         }
@@ -72,6 +73,9 @@ ran_keeps seed scripts given disk end book fresh later all = record {
           history = after.history;
           told = after.told;
           started = same_start h after.history given.history disk.history told after.told later.told;
+          by_now = subst (λ (b : Book). AreAckedWithin (length after.history.log) b.commits) (sym all.ran.book_is)
+              (subst (λ (n : ℕ). AreAckedWithin n all.ran.closed.book.commits) {x = all.ran.closed.events} (omega (arith, after.counted))
+              after.book.commits.by_now);
           cuts = subst (λ (b : Book). EachCutStands 0 after.history objects b) (sym all.ran.book_is) after.cuts;
         }
 

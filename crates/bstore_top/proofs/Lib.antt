@@ -6,8 +6,12 @@ pub mod RunLaws
 pub mod Room
 pub mod Demand
 pub mod WorkLemmas
+pub mod WordsLemmas
 pub mod Keeping
 pub mod GoodStarts
+pub mod Told
 pub mod DumpWalks
 pub mod DumpKept
 pub mod DumpLaws
+pub mod FsckLaws
+pub mod FsckWork

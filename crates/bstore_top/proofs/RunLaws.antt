@@ -20,9 +20,10 @@ use Rattle.object_model.specs.declared.book.Book.{Book}
 use Rattle.store_image.specs.Prelude.{IsShape, StandsFor}
 use Rattle.unit_allocator.specs.Prelude.{Space}
 use Rattle.script_text.specs.declared.line.Line.{Line}
-use Rattle.client_runs.specs.Prelude.{Ask, asks_of, ready_list, client_calls, Position, at_position, calls_at, EndsRun, RunsUpTo}
+use Rattle.client_runs.specs.Prelude.{Ask, asks_of, ready_list, client_calls, Position, at_position, calls_at, EndsAs, EndsRun, HasDrainedAfterRead, RunsUpTo}
 use Rattle.client_runs.specs.declared.run_fail.RunFail.{RunFail}
 use Rattle.client_runs.specs.declared.run_fail.RunFail.TheVariants as run
+use Rattle.store_kernel.specs.declared.step_fail.StepFail.{StepFail}
 use Rattle.store_steps.specs.declared.step.Step.{Step}
 use Rattle.store_steps.specs.declared.step.Step.TheVariants.{Reap}
 use Rattle.store_steps.specs.Prelude.{State, intents, Found, free_count, is_drained, is_empty, Call, stepping, Calls, IsRun}
@@ -42,7 +43,7 @@ use Rattle.mount_replay.specs.Mounting.{IsOpenedOn, WasOpened}
 use Rattle.run_texts.specs.declared.work_end.WorkEnd.{WorkEnd}
 use Rattle.run_texts.specs.declared.work_end.WorkEnd.TheVariants.{Done, BadLine, NoSuper, BadRow, NotExact, WornOut}
 use Rattle.run_texts.specs.declared.work_end.WorkEnd.TheVariants.{DeviceFault, OutOfMemory, BayFault, SinkFault}
-use Rattle.bstore_top.specs.Prelude.{end_of_run, Seen, RunsScripts, WorksOn, EndsOpened, IsStepDone, RanStep, HasFree, IsFinished, IsComplete, KeepsStore, FinishesOn, AreAllAsked, Succeeded}
+use Rattle.bstore_top.specs.Prelude.{end_of_run, Seen, RunsScripts, HasDrained, LeavesAll, RunsAndKeeps, WorksOn, EndsOpened, IsStepDone, RanStep, IsFinished, IsComplete, KeepsStore, FinishesOn, AreAllAsked, Succeeded}
 use Rattle.run_texts.specs.Prelude.{Output, TookAll, Printed, is_csum, has_csum, end_status, step_number, step_text}
 use Rattle.bstore_top.proofs.FreeLemmas.{drained_free}
 use Rattle.client_runs.proofs.Prelude.{drawn_run, both_empty}
@@ -80,11 +81,11 @@ ends_there : (p q : Position) → q ≡ p → (calls : List Call) × IsRun p.sta
 ends_there p q same = ([], (ap (λ (z : Position). z.state) same, ap (λ (z : Position). z.disk) same))
 
 -- behind where the clients were come the calls that were drawn since a read was lost
-ends_run : (fail : Option RunFail) (p q : Position) → EndsRun fail p q → (calls : List Call) × IsRun p.state p.disk calls q.state q.disk
-ends_run None p q ended = ends_there p q ended.0
-ends_run (Some run.Fault) p q ended = ends_there p q ended.0
-ends_run (Some run.Memory) p q ended = ends_there p q ended.0
-ends_run (Some run.DeviceRead) p q ended =
+ends_run : (start : Position) (fail : Option RunFail) (p q : Position) → EndsRun start fail p q → (calls : List Call) × IsRun p.state p.disk calls q.state q.disk
+ends_run start None p q ended = ends_there p q ended.0
+ends_run start (Some run.Fault) p q ended = ends_there p q ended.0
+ends_run start (Some run.Memory) p q ended = ends_there p q ended.0
+ends_run start (Some run.DeviceRead) p q ended =
     let calls : List Call = ended.leads.calls in
     let behind : IsRun ended.resumed.state ended.resumed.disk calls q.state q.disk = drawn_run ended.resumed calls q ended.leads.run in (
       calls,
@@ -97,7 +98,7 @@ pub clients_run : (fail : Option RunFail) (x : ℕ) (scripts : List (List Line))
     → RunsUpTo fail x scripts s d s' d' → (calls : List Call) × IsRun s d calls s' d'
 clients_run fail x scripts s d s' d' ran =
     let front : List Call = ran.leads.calls in
-    let behind = ends_run fail ran.reached ran.last ran.ended in
+    let behind = ends_run (at_position x (map asks_of scripts) s d) fail ran.reached ran.last ran.ended in
     let last : IsRun ran.reached.state ran.reached.disk behind.0 s' d' =
     subst (λ (z : State). IsRun ran.reached.state ran.reached.disk behind.0 z d') ran.state
     (subst (λ (z : Disk). IsRun ran.reached.state ran.reached.disk behind.0 ran.last.state z) ran.disk behind.1) in (
@@ -232,7 +233,8 @@ nothing_to_draw p none up =
 run_through : (fail : Option RunFail) (x : ℕ) (scripts : List (List Line)) (s : State) (d : Disk) (s' : State) (d' : Disk)
     → (ran : RunsUpTo fail x scripts s d s' d') → fail ≡ None → IsThrough ran.reached.clients s' d'
 run_through fail x scripts s d s' d' ran none =
-    let ended : EndsRun None ran.reached ran.last = subst (λ (f : Option RunFail). EndsRun f ran.reached ran.last) none ran.ended in
+    let start : Position = at_position x (map asks_of scripts) s d in
+    let ended : EndsRun start None ran.reached ran.last = subst (λ (f : Option RunFail). EndsRun start f ran.reached ran.last) none ran.ended in
     let through : IsThrough ran.reached.clients ran.reached.state ran.reached.disk = nothing_to_draw ran.reached ended.1.0 ended.1.1 in
     let state : ran.reached.state ≡ s' = ap (λ (z : Position). z.state) (sym ended.0) ∙ ran.state in
     let disk : ran.reached.disk ≡ d' = ap (λ (z : Position). z.disk) (sym ended.0) ∙ ran.disk in
@@ -270,7 +272,87 @@ order_complete s d kept known up drained =
       acked = acked_below s.acked s.book.commits kept.always.book.acks (omega (arith, idle_acked s d kept up drained));
     }
 
--- ---- the end of such a run
+-- ---- a run whose kernel has nothing left to do in the end
+
+module _ (seed : ℕ) (scripts : List (List Line)) (given disk : Disk) (end : WorkEnd) (book : Book) (ran : RunsScripts seed scripts given end book disk)
+    (idle : HasDrained ran.last ran.left) where
+  -- unmounting finds nothing in flight
+  same_end : (ran.closed ≡ ran.last) × (disk ≡ ran.left)
+  same_end = no_reap ran.reaped.calls ran.last ran.closed ran.left disk idle.0 ran.reaped.reaps ran.reaped.run
+
+  book_at_end : book ≡ ran.last.book
+  book_at_end = ran.book_is ∙ ap (λ (z : State). z.book) same_end.0
+
+module _ (seed : ℕ) (scripts : List (List Line)) (given disk : Disk) (end : WorkEnd) (book : Book)
+    (all : RanKept seed scripts given end book disk) (idle : HasDrained all.ran.last all.ran.left) where
+  abbrev done : RunsScripts seed scripts given end book disk
+  done = all.ran
+
+  up_to_end : (calls : List Call) × IsRun done.first done.start calls done.last done.left
+  up_to_end = up_to_last seed scripts given disk end book all
+
+  kept_to_end : IsKept done.last done.left
+  kept_to_end = kept_run up_to_end.0 done.first done.last done.start done.left plans_keep all.kept up_to_end.1
+
+  all_complete : IsComplete book
+  all_complete =
+      let first : IsInOrder done.first = subst IsInOrder (sym done.mounted.state) (order_opened done.found done.space done.mounted.events) in
+      let known : IsInOrder done.last = order_run up_to_end.0 done.first done.last done.start done.left plans_keep all.kept first up_to_end.1 in
+      subst IsComplete (sym (book_at_end seed scripts given disk end book done idle))
+      (order_complete done.last done.left kept_to_end known idle.1 idle.0)
+
+  all_finished : IsFresh given → (h : History) (objects : Objects) → given.history ≡ Some h → StandsFor h.start objects
+      → (h' : History) × (disk.history ≡ Some h') × IsFinished objects (free_count done.last.space) book h'
+  all_finished fresh h objects told stands =
+      let s : State = done.last in
+      let d : Disk = done.left in
+      let after : IsDurable 0 objects s d = last_durable seed scripts given disk end book all h objects fresh told stands in
+      let known : KnownOfStore 0 objects s d after.history = after.up idle.1 in
+      let contents : List ℕ = last after.history.start after.history.log in (
+        after.history,
+        ap (λ (z : Disk). z.history) (same_end seed scripts given disk end book done idle).1 ∙ after.told,
+        record {
+          stands = subst (λ (b : Book). StandsFor contents (replay objects (accepted b.entries)))
+              (sym (book_at_end seed scripts given disk end book done idle))
+              (drained_stands 0 objects s d after.history kept_to_end idle.1 idle.0 known);
+          clean = drained_clean 0 s d after.history kept_to_end known.units idle.1 idle.0;
+          exact = drained_exact 0 objects s d after.history kept_to_end idle.1 idle.0 known;
+          has_free = drained_free 0 s d after.history kept_to_end known.units idle.1 idle.0;
+        },
+      )
+
+  leaves_all : LeavesAll given (free_count done.last.space) book disk
+  leaves_all = record { complete = all_complete; at_end = all_finished }
+
+-- a run, whatever comes of it, keeps all where it has nothing left to do
+pub runs_and_keeps : (seed : ℕ) (scripts : List (List Line)) (given disk : Disk) (end : WorkEnd) (book : Book)
+    → RanKept seed scripts given end book disk → RunsAndKeeps seed scripts given end book disk
+runs_and_keeps seed scripts given disk end book all =
+    record { ran = all.ran; drained = λ idle. leaves_all seed scripts given disk end book all idle }
+
+-- where steps were drawn after a lost read until none was ready, it has nothing left to do
+lost_and_drained : (start : Position) (fail : Option RunFail) (p q : Position) (ended : EndsRun start fail p q)
+    → HasDrainedAfterRead start fail p q ended → HasDrained q.state q.disk
+lost_and_drained start (Some run.DeviceRead) p q ended none =
+    let all : EndsAs None q = subst (λ (f : Option StepFail). EndsAs f q) none ended.ended in
+    let through : IsThrough q.clients q.state q.disk = nothing_to_draw q all.0 all.1 in
+    (through.drained, through.up)
+lost_and_drained start (Some run.Fault) p q ended none = absurd none
+lost_and_drained start (Some run.Memory) p q ended none = absurd none
+lost_and_drained start None p q ended none = absurd none
+
+pub keeps_after_read : (seed : ℕ) (scripts : List (List Line)) (given : Disk) (end : WorkEnd) (book : Book) (disk : Disk)
+    (all : RunsAndKeeps seed scripts given end book disk)
+    → HasDrainedAfterRead (at_position seed (map asks_of scripts) all.ran.first all.ran.start) all.ran.fail all.ran.ran.reached all.ran.ran.last
+    all.ran.ran.ended
+    → LeavesAll given (free_count all.ran.last.space) book disk
+keeps_after_read seed scripts given end book disk all drained =
+    let ran = all.ran.ran in
+    let idle : HasDrained ran.last.state ran.last.disk =
+    lost_and_drained (at_position seed (map asks_of scripts) all.ran.first all.ran.start) all.ran.fail ran.reached ran.last ran.ended drained in
+    all.drained (subst (λ (d : Disk). HasDrained all.ran.last d) ran.disk (subst (λ (s : State). HasDrained s ran.last.disk) ran.state idle))
+
+-- ---- a run that ends well
 
 module _ (seed free : ℕ) (scripts : List (List Line)) (given disk : Disk) (book : Book) (ran : RunsScripts seed scripts given (Done free) book disk) where
   well : (ran.fail ≡ None) × (free ≡ free_count ran.last.space)
@@ -279,57 +361,27 @@ module _ (seed free : ℕ) (scripts : List (List Line)) (given disk : Disk) (boo
   through : IsThrough ran.ran.reached.clients ran.last ran.left
   through = run_through ran.fail seed scripts ran.first ran.start ran.last ran.left ran.ran well.0
 
-  -- unmounting finds nothing in flight
-  same_end : (ran.closed ≡ ran.last) × (disk ≡ ran.left)
-  same_end = no_reap ran.reaped.calls ran.last ran.closed ran.left disk through.drained ran.reaped.reaps ran.reaped.run
-
-  book_at_end : book ≡ ran.last.book
-  book_at_end = ran.book_is ∙ ap (λ (z : State). z.book) same_end.0
+  drained_well : HasDrained ran.last ran.left
+  drained_well = (through.drained, through.up)
 
   -- no client has a command left
   run_all_asked : IsComplete book → AreAllAsked scripts book.entries
   run_all_asked complete = all_asked scripts book ran.ran.reached.clients complete
-      (subst (λ (b : Book). client_calls 0 ran.ran.reached.clients b ≡ []) (sym book_at_end) through.no_call) ran.entries
+      (subst (λ (b : Book). client_calls 0 ran.ran.reached.clients b ≡ []) (sym (book_at_end seed scripts given disk (Done free) book ran drained_well))
+      through.no_call) ran.entries
 
 module _ (seed free : ℕ) (scripts : List (List Line)) (given disk : Disk) (book : Book) (all : RanKept seed scripts given (Done free) book disk) where
-  abbrev done : RunsScripts seed scripts given (Done free) book disk
-  done = all.ran
-
-  idle : IsThrough done.ran.reached.clients done.last done.left
-  idle = through seed free scripts given disk book done
-
-  up_to_end : (calls : List Call) × IsRun done.first done.start calls done.last done.left
-  up_to_end = up_to_last seed scripts given disk (Done free) book all
-
-  kept_to_end : IsKept done.last done.left
-  kept_to_end = kept_run up_to_end.0 done.first done.last done.start done.left plans_keep all.kept up_to_end.1
+  left_well : LeavesAll given (free_count all.ran.last.space) book disk
+  left_well = leaves_all seed scripts given disk (Done free) book all (drained_well seed free scripts given disk book all.ran)
 
   pub run_complete : IsComplete book
-  run_complete =
-      let first : IsInOrder done.first = subst IsInOrder (sym done.mounted.state) (order_opened done.found done.space done.mounted.events) in
-      let known : IsInOrder done.last = order_run up_to_end.0 done.first done.last done.start done.left plans_keep all.kept first up_to_end.1 in
-      subst IsComplete (sym (book_at_end seed free scripts given disk book done))
-      (order_complete done.last done.left kept_to_end known idle.up idle.drained)
+  run_complete = left_well.complete
 
   pub run_finished : (h : History) (objects : Objects) → IsFresh given → given.history ≡ Some h → StandsFor h.start objects
       → (h' : History) × (disk.history ≡ Some h') × IsFinished objects free book h'
   run_finished h objects fresh told stands =
-      let s : State = done.last in
-      let d : Disk = done.left in
-      let after : IsDurable 0 objects s d = last_durable seed scripts given disk (Done free) book all h objects fresh told stands in
-      let known : KnownOfStore 0 objects s d after.history = after.up idle.up in
-      let contents : List ℕ = last after.history.start after.history.log in (
-        after.history,
-        ap (λ (z : Disk). z.history) (same_end seed free scripts given disk book done).1 ∙ after.told,
-        record {
-          stands = subst (λ (b : Book). StandsFor contents (replay objects (accepted b.entries))) (sym (book_at_end seed free scripts given disk book done))
-              (drained_stands 0 objects s d after.history kept_to_end idle.up idle.drained known);
-          clean = drained_clean 0 s d after.history kept_to_end known.units idle.up idle.drained;
-          exact = drained_exact 0 objects s d after.history kept_to_end idle.up idle.drained known;
-          has_free = subst (HasFree contents) (sym (well seed free scripts given disk book done).1)
-              (drained_free 0 s d after.history kept_to_end known.units idle.up idle.drained);
-        },
-      )
+      subst (λ (n : ℕ). (h' : History) × (disk.history ≡ Some h') × IsFinished objects n book h') (sym (well seed free scripts given disk book all.ran).1)
+      (left_well.at_end fresh h objects told stands)
 
 -- ---- a run that returns 0
 
@@ -393,7 +445,7 @@ module _ (dev : List ℕ) (files : List (List ℕ)) (seed : ℕ) (seen : Seen) (
   worked_well : (e : EndsOpened dev files seed (Done free) seen bay_old bay_new before now) → WorksOn seed e.scripts e.given 0 (Done free) seen.book e.disk e.faults
       → Succeeded dev files seed seen bay_old old new
   worked_well e (inl failed) = absurd failed.0
-  worked_well e (inr ran) = ran_well e ran.1
+  worked_well e (inr ran) = ran_well e ran.1.ran
 
   done_well : IsStepDone dev files seed (Done free) seen bay_old bay_new before now → Succeeded dev files seed seen bay_old old new
   done_well (inl e) = absurd e.cause

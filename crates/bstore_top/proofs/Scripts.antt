@@ -1,6 +1,6 @@
 -- The scripts of a run: they are such as clients can run, and why they weren't read.
-use Rattle.std.proofs.Common.{◌≡◌, inl, inr, ℕ, ◌+◌, ◌*◌, ◌≤◌, Bool, true, false, List, [], ◌∷◌, ◌++◌, map, length, Option, Some, None}
-use Rattle.std.proofs.Common.{sym, refl, ap, subst, arith, length-append, Vec, Global}
+use Rattle.std.proofs.Common.{◌≡◌, inl, inr, ℕ, ◌*◌, ◌≤◌, Bool, false, List, [], ◌∷◌, map, length, Option}
+use Rattle.std.proofs.Common.{refl, arith, length-append, Vec, Global}
 use Rattle.std.specs.List.{AllByRecursion}
 use Rattle.std.proofs.lemmas.List.{length-map}
 use Rattle.block_device.specs.Prelude.{Rose}

@@ -498,11 +498,11 @@ run_goes_on p (call ∷ calls) q run none = by_draw (drew p call run.0 run.1.0) 
         let empty : slice_get {X = List Ask} [] i ≡ Some (next ∷ rest) = subst (λ (cs : List (List Ask)). slice_get cs i ≡ Some (next ∷ rest)) none there in
         absurd cc
 
-ends_goes_on : (fail : Option RunFail) (p q : Position) → EndsRun fail p q → BookGoesOn p.state.book q.state.book
-ends_goes_on None p q ended = book_stays _ _ (ap (λ (z : Position). z.state.book) ended.0)
-ends_goes_on (Some run.Fault) p q ended = book_stays _ _ (ap (λ (z : Position). z.state.book) ended.0)
-ends_goes_on (Some run.Memory) p q ended = book_stays _ _ (ap (λ (z : Position). z.state.book) ended.0)
-ends_goes_on (Some run.DeviceRead) p q ended =
+ends_goes_on : (start : Position) (fail : Option RunFail) (p q : Position) → EndsRun start fail p q → BookGoesOn p.state.book q.state.book
+ends_goes_on start None p q ended = book_stays _ _ (ap (λ (z : Position). z.state.book) ended.0)
+ends_goes_on start (Some run.Fault) p q ended = book_stays _ _ (ap (λ (z : Position). z.state.book) ended.0)
+ends_goes_on start (Some run.Memory) p q ended = book_stays _ _ (ap (λ (z : Position). z.state.book) ended.0)
+ends_goes_on start (Some run.DeviceRead) p q ended =
     subst (λ (s : State). BookGoesOn s.book q.state.book) ended.lost.state
     (run_goes_on ended.resumed ended.leads.calls q ended.leads.run ended.lost.clients)
 
@@ -510,7 +510,7 @@ ends_goes_on (Some run.DeviceRead) p q ended =
 pub ends_entries : (fail : Option RunFail) (x : ℕ) (scripts : List (List Line)) (s : State) (d : Disk) (s' : State) (d' : Disk)
     → (ran : RunsUpTo fail x scripts s d s' d') → s'.book.entries ≡ ran.reached.state.book.entries
 ends_entries fail x scripts s d s' d' ran =
-    ap (λ (t : State). t.book.entries) (sym ran.state) ∙ (ends_goes_on fail ran.reached ran.last ran.ended).entries
+    ap (λ (t : State). t.book.entries) (sym ran.state) ∙ (ends_goes_on _ fail ran.reached ran.last ran.ended).entries
 
 -- ---- all commands are entries or left
 
@@ -584,7 +584,7 @@ have_waited fail x scripts s d s' d' ran new kept =
     subst (λ (es : List Entry). EachHasWaited (map asks_of scripts) s'.book 0 es) (sym all_new) (each_more (map asks_of scripts) ran.reached.state.book s'.book 0 waits.new goes from_0)
   where
     goes : BookGoesOn ran.reached.state.book s'.book
-    goes = subst (λ (t : State). BookGoesOn ran.reached.state.book t.book) ran.state (ends_goes_on fail ran.reached ran.last ran.ended)
+    goes = subst (λ (t : State). BookGoesOn ran.reached.state.book t.book) ran.state (ends_goes_on _ fail ran.reached ran.last ran.ended)
 
     none : s.book.entries ≡ []
     none = ap (λ (b : Book). b.entries) new.book

@@ -13,7 +13,7 @@ use Rattle.store_steps.specs.Prelude.{State, Found, free_count, Call, submitting
 use Rattle.run_facts.specs.Prelude.{IsKept}
 use Rattle.crash_facts.specs.Store.{KeepsDurable}
 use Rattle.log_replay.specs.Prelude.{Told, GoesOn, IsLater, FailsMount, SubmitsNothing}
-use Rattle.mount_replay.specs.Mounting.{IsOpenedOn, IsReapedTo}
+use Rattle.mount_replay.specs.Mounting.{IsOpenedOn, LeftUnopened, IsReapedTo}
 use Rattle.log_replay.specs.declared.opening.MountFail.{MountFail}
 use Rattle.log_replay.specs.declared.opening.MountFail.TheVariants as fail
 use Rattle.log_replay.proofs.ZeroLemmas.{told_start, goes_on_same}
@@ -38,14 +38,14 @@ mount_fails (fail.WornOut value) given before now fails = (value, fails)
 mount_fails fail.Fault given before now fails = fails
 
 -- what a mount that failed leaves of the device
-pub left_by_mount : (f : MountFail) (given disk : Disk) → (SubmitsNothing f → disk ≡ given) → IsLater given disk
+pub left_by_mount : (f : MountFail) (given disk : Disk) → (SubmitsNothing f → disk ≡ given) → LeftUnopened given disk → IsLater given disk
     → LeftByMount (end_of_mount f) given disk
-left_by_mount fail.Memory given disk same later = later
-left_by_mount fail.NoSuper given disk same later = same tt
-left_by_mount (fail.BadRow key) given disk same later = same tt
-left_by_mount (fail.NotExact unit) given disk same later = same tt
-left_by_mount (fail.WornOut value) given disk same later = same tt
-left_by_mount fail.Fault given disk same later = later
+left_by_mount fail.Memory given disk same writes later = (later, writes)
+left_by_mount fail.NoSuper given disk same writes later = same tt
+left_by_mount (fail.BadRow key) given disk same writes later = same tt
+left_by_mount (fail.NotExact unit) given disk same writes later = same tt
+left_by_mount (fail.WornOut value) given disk same writes later = same tt
+left_by_mount fail.Fault given disk same writes later = (later, writes)
 
 -- ---- the device along a run
 

@@ -6,7 +6,7 @@ use Rattle.block_device.specs.Prelude.{Rose}
 use Rattle.end_points.specs.Bay.{Names, BayView}
 use Rattle.object_model.specs.Prelude.{Objects}
 use Rattle.meta_log.specs.Prelude.{width_of}
-use Rattle.store_image.specs.Prelude.{IsExactAs, StandsFor}
+use Rattle.store_image.specs.Prelude.{IsExact, IsExactAs, StandsFor}
 use Rattle.store_steps.specs.Prelude.{Found}
 use Rattle.log_replay.specs.Prelude.{IsFoundIn, HasLowNumbers}
 use Rattle.script_text.specs.Prelude.{IsScript}
@@ -45,6 +45,11 @@ pub record IsGoodStore (dev : List ℕ) (bay : BayView) : Type 0 where
   pub names : Names
   pub told : bay.names ≡ Some names
   pub store : HasGoodStore names dev
+
+-- such a start where no unit is leaked either
+pub record IsExactStore (dev : List ℕ) (bay : BayView) : Type 0 where
+  pub good : IsGoodStore dev bay
+  pub exact : IsExact (width_of good.store.found.sup) good.store.found.rows
 
 -- no count of faults rose: the device and the sources, where there are any, have counted none, and the bay and the sink no more than before
 pub record HasNoFault (seen : Seen) (before now : ℕ) (old new : Output) : Type 0 where

@@ -4,8 +4,10 @@ pub mod Waiting
 pub mod Room
 pub mod StepRun
 pub mod DumpRun
+pub mod FsckRun
 pub mod Dumping
 pub mod Finished
 pub mod GoodStart
+pub mod Told
 pub mod Run
 pub mod Prelude

@@ -1,5 +1,5 @@
 -- What a run of `step` does: it reads its scripts, mounts a store, and runs the scripts beside each other on it.
-use Rattle.std.specs.Prelude.{◌≡◌, ◌⊎◌, ℕ, ◌+◌, ◌≤◌, List, [], ◌∷◌, length, map, replicate, Option, Some, None, false}
+use Rattle.std.specs.Prelude.{◌≡◌, ◌⊎◌, ℕ, ◌+◌, ◌≤◌, List, [], ◌∷◌, length, map, replicate, Option, Some, None, false, true}
 use Rattle.block_device.specs.Prelude.{Disk, IsSound, Rose}
 use Rattle.block_device.specs.declared.device.Failed.{Failed}
 use Rattle.block_device.specs.declared.device.Failed.TheVariants as failed
@@ -11,12 +11,12 @@ use Rattle.unit_allocator.specs.Prelude.{Space}
 use Rattle.script_text.specs.declared.line.Line.{Line}
 use Rattle.store_image.specs.Prelude.{IsShape}
 use Rattle.meta_store.specs.Store.{room_of}
-use Rattle.store_steps.specs.Prelude.{State, Found, free_count}
+use Rattle.store_steps.specs.Prelude.{State, Found, free_count, is_drained}
 use Rattle.book_facts.specs.Prelude.{demand_of, any_no_space}
 use Rattle.log_replay.specs.Prelude.{IsLater, FailsMount}
 use Rattle.log_replay.specs.declared.opening.MountFail.{MountFail}
 use Rattle.log_replay.specs.declared.opening.MountFail.TheVariants as fail
-use Rattle.mount_replay.specs.Mounting.{IsOpenedOn, IsReapedTo}
+use Rattle.mount_replay.specs.Mounting.{IsOpenedOn, LeftUnopened, IsReapedTo}
 use Rattle.read_facts.specs.Prelude.{IsLegalButBytes}
 use Rattle.script_reading.specs.Prelude.{HaveScripts, AreReadWhole, FailsToRead}
 use Rattle.script_reading.specs.declared.unread.Unread.{Unread}
@@ -27,7 +27,7 @@ use Rattle.client_runs.specs.declared.run_fail.RunFail.TheVariants as run
 use Rattle.run_texts.specs.declared.work_end.WorkEnd.{WorkEnd}
 use Rattle.run_texts.specs.declared.work_end.WorkEnd.TheVariants.{Done, BadLine, NoSuper, BadRow, NotExact, WornOut, DeviceFault, OutOfMemory, BayFault}
 use Rattle.run_texts.specs.Prelude.{Output, ReportsStep}
-use Rattle.bstore_top.specs.Keeping.{KeepsStore}
+use Rattle.bstore_top.specs.Keeping.{LeavesAll, KeepsStore}
 use Rattle.bstore_top.specs.Room.{EachFullOnlyBeyond}
 use Rattle.bstore_top.specs.Waiting.{HaveWaited}
 
@@ -145,18 +145,27 @@ abbrev pub HasCounted : WorkEnd → ℕ → ℕ → Type 0
 HasCounted DeviceFault before now = Rose before now
 HasCounted end before now = Unit {0}
 
--- A mount that refuses what the device holds leaves it as it was given; one that the device or memory failed may have begun to clear what is
--- behind the records.
+-- A mount that refuses what the device holds leaves it as it was given; one that the device or memory failed may have begun to write zeros behind
+-- the records of the store that it found, and has written nothing else.
 abbrev pub LeftByMount : WorkEnd → Disk → Disk → Type 0
-LeftByMount DeviceFault given disk = IsLater given disk
-LeftByMount OutOfMemory given disk = IsLater given disk
+LeftByMount DeviceFault given disk = IsLater given disk × LeftUnopened given disk
+LeftByMount OutOfMemory given disk = IsLater given disk × LeftUnopened given disk
 LeftByMount end given disk = disk ≡ given
+
+-- no step is ready, and no submission has ended badly
+abbrev pub HasDrained : State → Disk → Type 0
+HasDrained s d = (is_drained d.depth s ≡ true) × (s.down ≡ None)
+
+-- The scripts were run. Where the kernel had nothing left to do in the end, all that was accepted is kept, also where a read was lost before.
+pub record RunsAndKeeps (seed : ℕ) (scripts : List (List Line)) (given : Disk) (end : WorkEnd) (book : Book) (disk : Disk) : Type 0 where
+  pub ran : RunsScripts seed scripts given end book disk
+  pub drained : HasDrained ran.last ran.left → LeavesAll given (free_count ran.last.space) book disk
 
 -- the device wasn't mounted, and the book is empty; or the scripts were run on it
 abbrev pub WorksOn : ℕ → List (List Line) → Disk → ℕ → WorkEnd → Book → Disk → ℕ → Type 0
 WorksOn seed scripts given before end book disk now =
     (FailsToMount end given before now × (book ≡ empty_book) × LeftByMount end given disk)
-    ⊎ (HasCounted end before now × RunsScripts seed scripts given end book disk)
+    ⊎ (HasCounted end before now × RunsAndKeeps seed scripts given end book disk)
 
 -- no device was opened
 pub record EndsUnopened (files : List (List ℕ)) (end : WorkEnd) (seen : Seen) (names : Option Names) (before now : ℕ) : Type 0 where

@@ -1,20 +1,24 @@
 //! What a run of scripts on a store comes to, whatever the seed is and whatever the device answers. Each function has a law for its
 //! contract and does nothing.
-ghost use Rattle.std.specs.Prelude.{◌≡◌, ◌⊎◌, ◌≤◌, ℕ, List, Option, false};
-ghost use Rattle.block_device.specs.Prelude.{Disk};
+ghost use Rattle.std.specs.Prelude.{◌≡◌, ◌⊎◌, ◌↔◌, ◌≤◌, ℕ, List, map, Option, false};
+ghost use Rattle.block_device.specs.Prelude.{Disk, Rose};
 ghost use Rattle.object_model.specs.declared.book.Book.{Book};
 ghost use Rattle.script_text.specs.declared.line.Line.{Line};
 ghost use Rattle.store_steps.specs.Prelude.{State, free_count, Call, IsRun};
 ghost use Rattle.book_facts.specs.Prelude.{any_no_space};
 ghost use Rattle.run_texts.specs.declared.work_end.WorkEnd.{WorkEnd};
 ghost use Rattle.end_points.specs.Bay.{BayView};
-ghost use Rattle.client_runs.specs.Running.{RunsUpTo};
+ghost use Rattle.client_runs.specs.Choice.{asks_of, at_position};
+ghost use Rattle.client_runs.specs.Running.{RunsUpTo, HasDrainedAfterRead};
 ghost use Rattle.client_runs.specs.declared.run_fail.RunFail.{RunFail};
-ghost use Rattle.bstore_top.specs.StepRun.{RanStep, RunsScripts, Seen, scripts_demand};
+ghost use Rattle.bstore_top.specs.Keeping.{LeavesAll};
+ghost use Rattle.bstore_top.specs.StepRun.{RanStep, RunsScripts, RunsAndKeeps, Seen, scripts_demand};
 ghost use Rattle.bstore_top.specs.DumpRun.{RanDump, Dumped};
+ghost use Rattle.bstore_top.specs.FsckRun.{RanFsck, TellsBad};
 ghost use Rattle.run_texts.specs.Prelude.{Output};
 ghost use Rattle.bstore_top.specs.Finished.{Succeeded};
-ghost use Rattle.bstore_top.specs.GoodStart.{IsGoodStart, IsGoodStore, HasNoFault};
+ghost use Rattle.bstore_top.specs.GoodStart.{IsGoodStart, IsGoodStore, IsExactStore, HasNoFault};
+ghost use Rattle.bstore_top.specs.Told.{ToldOkIsThere};
 
 /// The run of clients is a run of the kernel, also where a read was lost on the way.
 pub fn a_run_of_scripts_is_a_run()
@@ -56,5 +60,34 @@ pub fn a_dump_that_returns_0_shows_all()
 pub fn a_good_dump_ends_well()
     ensures { (dev : List ℕ) (status : ℕ) (seen : Seen) (bay_old bay_new : BayView) (before now : ℕ) (old new : Output) →
         RanDump dev status seen bay_old bay_new before now old new → IsGoodStore dev bay_old →
+        HasNoFault seen before now old new → (status ≡ 0) ⊎ (status ≡ 5) }
+{}
+
+/// A run that lost a read, and then drew steps until none was ready, has committed and acknowledged each transaction that was accepted, and a device
+/// that tells what it holds stands for just what they made.
+pub fn a_run_drained_after_a_lost_read_keeps_all()
+    ensures { (seed : ℕ) (scripts : List (List Line)) (given : Disk) (end : WorkEnd) (book : Book) (disk : Disk) →
+        (all : RunsAndKeeps seed scripts given end book disk) →
+        HasDrainedAfterRead (at_position seed (map asks_of scripts) all.ran.first all.ran.start) all.ran.fail all.ran.ran.reached all.ran.ran.last
+        all.ran.ran.ended →
+        LeavesAll given (free_count all.ran.last.space) book disk }
+{}
+
+/// What a client was told `ok` is there, whatever crash comes after it: of an entry whose reply is `ok` the commit is among the first ones of which
+/// every image that a crash behind the whole log may leave has the objects, unless something torn is valid by chance.
+pub fn what_was_told_ok_is_there()
+    ensures { ToldOkIsThere }
+{}
+
+/// A run of `fsck` whose output didn't fail returns 4 exactly where it found something, or the device holds no store.
+pub fn a_fsck_returns_4_where_something_is_wrong()
+    ensures { (dev : List ℕ) (status : ℕ) (seen : Seen) (bay_old bay_new : BayView) (before now : ℕ) (old new : Output) →
+        (ran : RanFsck dev status seen bay_old bay_new before now old new) → ¬ Rose old.faults new.faults → (status ≡ 4) ↔ TellsBad ran.ended }
+{}
+
+/// A run of `fsck` that nothing stands against, on a store without leaked units, ends well, or for want of memory.
+pub fn a_good_fsck_ends_well()
+    ensures { (dev : List ℕ) (status : ℕ) (seen : Seen) (bay_old bay_new : BayView) (before now : ℕ) (old new : Output) →
+        RanFsck dev status seen bay_old bay_new before now old new → IsExactStore dev bay_old →
         HasNoFault seen before now old new → (status ≡ 0) ⊎ (status ≡ 5) }
 {}

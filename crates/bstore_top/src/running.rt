@@ -1,21 +1,25 @@
 //! Runs, from the words to the outcome.
-ghost use Rattle.std.specs.Prelude.{◌≡◌, ◌<◌, [], map, IsSomeAnd};
+ghost use Rattle.std.specs.Prelude.{◌≡◌, ◌<◌, ◌≤◌, [], map, IsSomeAnd};
 ghost use Rattle.std.specs.Option.{option_map};
-ghost use Rattle.command_words.specs.declared.command_line.CommandLine.TheVariants.{Mkfs, Step, Dump};
+ghost use Rattle.command_words.specs.declared.command_line.CommandLine.TheVariants.{Mkfs, Step, Dump, Fsck};
 ghost use Rattle.command_words.specs.CommandLine.{words_of, IsInRange, IsHalf, IsUnitCount, IsNoCommandLine};
-ghost use Rattle.run_texts.specs.Prelude.{number, output, ShowedUsage};
+ghost use Rattle.run_texts.specs.Prelude.{number, output};
 ghost use Rattle.bstore_top.specs.StepRun.{seen, RanStep};
 ghost use Rattle.bstore_top.specs.DumpRun.{RanDump};
-ghost use Rattle.bstore_top.specs.Run.{Ran, RanMkfs, ForLine, ComesBack, CameBack, EachCrashLeavesPrefix, HasStore, IsBare, IsBareUnlessStep, LeavesBook};
+ghost use Rattle.bstore_top.specs.FsckRun.{RanFsck};
+ghost use Rattle.bstore_top.specs.Run.{Ran, RanMkfs, ForLine, ComesBack, CameBack, EachCrashLeavesPrefix, HasStore, SpellsNone, IsBare, IsBareUnlessStep, LeavesBook};
 
 use crate::Outcome;
 use crate::dump_work::{DumpWork, dump_store};
+use crate::fsck_work::{FsckWork, fsck_store};
 use crate::making::{Work, make_store};
 use crate::script_work::{StepWork, run_store};
-use command_words::{CommandLine, FileName, FileNames, read_words};
+use command_words::{CommandLine, FileName, FileNames, NoLine, read_words};
 use end_points::{Bay, Gate, Sink};
 use object_model::Book;
-use run_texts::{DumpPrinter, Status, report_mkfs, report_step, show_usage};
+use run_texts::{
+    DumpPrinter, Status, Stop, report_fsck, report_mkfs, report_step, report_stop, show_usage,
+};
 use std::alloc::Global;
 
 /// An outcome of a run that opens no script and has no book.
@@ -40,20 +44,24 @@ fn run_mkfs<B: Bay, K: Sink>(
     dev: &FileName<'_>,
     half: u32,
     units: u32,
+    prefer: u32,
     bay: &mut B,
     out: &mut K,
 ) -> Outcome<B::Dev, B::Src>
     requires half { IsHalf half }
     requires units { IsUnitCount units }
+    requires prefer { prefer ≤ 1048576 }
     requires given { (B.bay bay.old).given < 4294967294 }
-    ensures run { RanMkfs half units result.status (option_map B.Dev.faults result.dev) (B.faults bay.old) (B.faults bay.new)
+    ensures run { RanMkfs dev.now half units result.status
+        (seen (option_map B.Dev.disk result.dev) (option_map B.Dev.faults result.dev) (map B.Src.faults result.sources.items) result.book)
+        (B.bay bay.old) (B.bay bay.new) (B.faults bay.old) (B.faults bay.new)
         (output (K.written out.old) (K.faults out.old)) (output (K.written out.new) (K.faults out.new)) }
-    ensures device { ComesBack (Mkfs dev.now half units) (B.bay bay.old) (option_map B.Dev.disk result.dev) (B.bay bay.new) }
-    ensures store { result.status ≡ 0 → IsSomeAnd (option_map B.Dev.disk result.dev) (HasStore (Mkfs dev.now half units)) }
+    ensures device { ComesBack (Mkfs dev.now half units prefer) (B.bay bay.old) (option_map B.Dev.disk result.dev) (B.bay bay.new) }
+    ensures store { result.status ≡ 0 → IsSomeAnd (option_map B.Dev.disk result.dev) (HasStore (Mkfs dev.now half units prefer)) }
     ensures rest { IsBare result.sources.items result.book }
     ensures turns { result.turns.items ≡ [] }
 {
-    let Work { stop, dev } = make_store(alloc, dev, half, units, bay);
+    let Work { stop, dev } = make_store(alloc, dev, half, units, prefer, bay);
     let status = report_mkfs(half, units, stop, out);
     bare(alloc, status, dev)
 }
@@ -115,6 +123,27 @@ fn run_dump<B: Bay, K: Sink>(
     bare(alloc, status, dev)
 }
 
+/// Runs `fsck`.
+fn run_fsck<B: Bay, K: Sink>(
+    alloc: Global,
+    dev: &FileName<'_>,
+    bay: &mut B,
+    out: &mut K,
+) -> Outcome<B::Dev, B::Src>
+    requires given { (B.bay bay.old).given < 4294967294 }
+    ensures run { RanFsck dev.now result.status
+        (seen (option_map B.Dev.disk result.dev) (option_map B.Dev.faults result.dev) (map B.Src.faults result.sources.items) result.book)
+        (B.bay bay.old) (B.bay bay.new) (B.faults bay.old) (B.faults bay.new)
+        (output (K.written out.old) (K.faults out.old)) (output (K.written out.new) (K.faults out.new)) }
+    ensures device { ComesBack (Fsck dev.now) (B.bay bay.old) (option_map B.Dev.disk result.dev) (B.bay bay.new) }
+    ensures rest { IsBare result.sources.items result.book }
+    ensures turns { result.turns.items ≡ [] }
+{
+    let FsckWork { ended, dev } = fsck_store(alloc, dev, bay);
+    let status = report_fsck(&ended, out);
+    bare(alloc, status, dev)
+}
+
 fn run<B: Bay, K: Sink>(
     alloc: Global,
     line: &CommandLine<'_>,
@@ -134,9 +163,15 @@ fn run<B: Bay, K: Sink>(
     ensures turns { result.turns.items ≡ [] }
 {
     match line {
-        CommandLine::Mkfs { dev, half, units } => run_mkfs(alloc, dev, *half, *units, bay, out),
+        CommandLine::Mkfs {
+            dev,
+            half,
+            units,
+            prefer,
+        } => run_mkfs(alloc, dev, *half, *units, *prefer, bay, out),
         CommandLine::Step { dev, seed, scripts } => run_step(alloc, dev, *seed, scripts, bay, out),
         CommandLine::Dump { dev } => run_dump(alloc, dev, bay, out),
+        CommandLine::Fsck { dev } => run_fsck(alloc, dev, bay, out),
     }
 }
 
@@ -151,7 +186,7 @@ pub fn solo<B: Bay, K: Sink>(
 ) -> Outcome<B::Dev, B::Src>
     requires { (B.bay bay.old).given < 4294967294 }
     ensures usage { IsNoCommandLine (words_of words.now) →
-        ShowedUsage result.status (output (K.written out.old) (K.faults out.old)) (output (K.written out.new) (K.faults out.new)) }
+        SpellsNone result.status (output (K.written out.old) (K.faults out.old)) (output (K.written out.new) (K.faults out.new)) }
     ensures run { ForLine (words_of words.now) (λ line. Ran line result.status
         (seen (option_map B.Dev.disk result.dev) (option_map B.Dev.faults result.dev) (map B.Src.faults result.sources.items) result.book)
         (B.bay bay.old) (B.bay bay.new) (B.faults bay.old) (B.faults bay.new)
@@ -162,9 +197,10 @@ pub fn solo<B: Bay, K: Sink>(
     ensures rest { IsBareUnlessStep (words_of words.now) result.sources.items result.book }
     ensures turns { result.turns.items ≡ [] }
 {
-    match read_words(words) {
-        Some(line) => run(alloc, &line, bay, out),
-        None => bare(alloc, show_usage(out), None),
+    match read_words(alloc, words) {
+        Ok(line) => run(alloc, &line, bay, out),
+        Err(NoLine::Told { text }) => bare(alloc, show_usage(text.as_str(), out), None),
+        Err(NoLine::Memory) => bare(alloc, report_stop(Stop::OutOfMemory, out), None),
     }
 }
 
@@ -179,7 +215,7 @@ pub fn top<B: Bay, K: Sink, G: Gate>(
 ) -> Outcome<B::Dev, B::Src>
     requires { (B.bay bay.old).given < 4294967294 }
     ensures usage { IsNoCommandLine (words_of words.now) →
-        ShowedUsage result.status (output (K.written out.old) (K.faults out.old)) (output (K.written out.new) (K.faults out.new)) }
+        SpellsNone result.status (output (K.written out.old) (K.faults out.old)) (output (K.written out.new) (K.faults out.new)) }
     ensures run { ForLine (words_of words.now) (λ line. Ran line result.status
         (seen (option_map B.Dev.disk result.dev) (option_map B.Dev.faults result.dev) (map B.Src.faults result.sources.items) result.book)
         (B.bay bay.old) (B.bay bay.new) (B.faults bay.old) (B.faults bay.new)

@@ -1,4 +1,10 @@
 //! Byte strings, and what it is to be copied where memory may run out.
+//!
+//! A byte string takes 32 bytes, and keeps up to 30 bytes in the value itself, as most keys, row values and names are as short: an
+//! opening takes 2.7 blocks of memory for an object where it took 14. It is an enum of our own in a struct, so that a row has 64 bytes
+//! where an array beside a vector made 112. Each crate that drops one proves that once, as a function of its own, which the others call,
+//! so that the two forms aren't cases of their proofs. In 32 bytes the kit's `smallvec` keeps 16 in the value itself, and with 30 it
+//! takes 48.
 ghost use Rattle.std.specs.Prelude.{◌≡◌, ◌↔◌, ◌≤◌, ◌<◌, ◌++◌, ◌∷◌, ℕ, List, [], length, take, slice_set, IsTrue, IfOk, OnOk, OnErr};
 ghost use Rattle.byte_maps.specs.Held.{bytes_of, Fits};
 

@@ -149,6 +149,11 @@ impl Setup {
         }
     }
 
+    /// The text of a script.
+    pub fn script(&self, name: &str) -> Result<&[u8], CaseError> {
+        bytes_of(&self.scripts, name).ok_or(CaseError::Line("no such script"))
+    }
+
     /// Puts a device of these contents under a name.
     pub fn put_device(&mut self, name: &str, contents: Vec<u8>) -> Result<(), CaseError> {
         put(self.alloc, &mut self.devices, name, contents)

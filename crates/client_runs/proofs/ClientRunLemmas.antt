@@ -1,5 +1,5 @@
 -- The clients' run, from one command to the next, and its ends.
-use Rattle.std.proofs.Common.{◌≡◌, ◌≢◌, ℕ, zero, suc, ◌+◌, ◌<◌, ◌≤◌, Bool, true, false, cond, List, [], ◌∷◌, ◌++◌, map, length, drop, Option, Some, None}
+use Rattle.std.proofs.Common.{◌≡◌, ◌≢◌, inl, inr, ℕ, zero, suc, ◌+◌, ◌<◌, ◌≤◌, Bool, true, false, cond, List, [], ◌∷◌, ◌++◌, map, length, drop, Option, Some, None}
 use Rattle.std.proofs.Common.{Result, Ok, Err, MatchResult, ap, ◌∙◌, sym, refl, subst, arith, append_assoc, length-append}
 use Rattle.std.specs.Prelude.{slice_get, ◌==◌, IsSomeAnd}
 use Rattle.std.specs.List.{AllByRecursion}
@@ -29,7 +29,7 @@ use Rattle.client_runs.specs.declared.client.Client.{Client}
 use Rattle.client_runs.specs.declared.clients.Clients.{Clients}
 use Rattle.client_runs.specs.declared.run_fail.RunFail.{RunFail}
 use Rattle.client_runs.specs.declared.run_fail.RunFail.TheVariants as run
-use Rattle.client_runs.specs.Prelude.{Ask, asked, asks_from, asks_of, call_of, behind, asks_after, ready_list, IsDrawnOf, Position, at_position, calls_at, LeadsTo, command_sum, FitsLine, Asked, asked_in, asked_by, entries_of, AskedUpTo, EachAskedUpTo, AreAsked, EndsAs, is_able, left_of, lefts, IsOfOne, AreTied, FitsAsk, EachFits, position_of, StepsOn, DrawsClient, FindsClient, StopsAs, AsksNext, AsksInVain, fail_of, EndsClients, RunsClients, WindsUp, empty_book, IsNew, AreNewClients, AreCounts, AreOfClients, unacked, RunsUpTo}
+use Rattle.client_runs.specs.Prelude.{Ask, asked, asks_from, asks_of, call_of, behind, asks_after, ready_list, IsDrawnOf, Position, at_position, calls_at, LeadsTo, command_sum, FitsLine, Asked, asked_in, asked_by, entries_of, AskedUpTo, EachAskedUpTo, AreAsked, CallTakesMemory, EndsAs, is_able, left_of, lefts, IsOfOne, AreTied, FitsAsk, EachFits, position_of, StepsOn, DrawsClient, FindsClient, StopsAs, AsksNext, AsksInVain, fail_of, EndsClients, RunsClients, WindsUp, empty_book, IsNew, AreNewClients, AreCounts, AreOfClients, unacked, RunsUpTo}
 use Rattle.client_runs.specs.declared.drawing.Drawn.TheVariants as drawn
 use Rattle.client_runs.proofs.DrawLemmas.{get_map, DrawsCall, drawn_client}
 use Rattle.client_runs.proofs.RunLemmas.{stays, leads_more, leads_on}
@@ -223,6 +223,11 @@ module _ (p : Position) (x : ℕ) (c : Clients) (s : State) (d : Disk) (so_far :
     goes_behind line (command.OmapHeader coll object) lists = refl
     goes_behind line (command.List coll) lists = refl
 
+    -- a command takes memory
+    takes_memory : (line : ℕ) (k : Command) → CallTakesMemory (call_of client line k)
+    takes_memory line (command.Change change) = tt
+    takes_memory line read = tt
+
     -- its command was made
     pub runs_on : (c'' : Clients) (s'' : State) (d'' : Disk) → AsksNext client c' s' d' c'' s'' d'' → IsSound d'' → IsRunning p x' c'' s'' d''
     runs_on c'' s'' d'' asks sound =
@@ -271,7 +276,17 @@ module _ (p : Position) (x : ℕ) (c : Clients) (s : State) (d : Disk) (so_far :
     runs_in_vain run.Memory s'' d'' vain = record {
       reached = position_of one.y c' s' d';
       leads = before_it.leads;
-      ended = (sym vain.unmade.0, sym vain.unmade.1, before_it.up);
+      ended = (
+        sym vain.unmade.0,
+        sym vain.unmade.1,
+        record {
+          up = before_it.up;
+          call = call_of client vain.next.line vain.next.command;
+          drawn = subst (λ (n : ℕ). IsDrawnOf n (calls_at (position_of one.y c' s' d')) (call_of client vain.next.line vain.next.command))
+              one.drawn.turn (drawn_so vain.next vain.rest vain.left);
+          takes = takes_memory vain.next.line vain.next.command;
+        },
+      );
       asked = λ scripts was. subst (λ (z : State). AreAsked scripts z.book.entries (lefts c'.all.items)) (sym vain.unmade.0) (before_it.asked scripts was);
     }
     runs_in_vain run.DeviceRead s'' d'' vain = record {
@@ -284,6 +299,7 @@ module _ (p : Position) (x : ℕ) (c : Clients) (s : State) (d : Disk) (so_far :
           command = vain.next.command;
           x = one.drawn.turn;
           drawn = drawn_so vain.next vain.rest vain.left;
+          needs = vain.unmade.2;
           clients = refl;
           state = vain.unmade.0;
           disk = vain.unmade.1;
@@ -362,7 +378,7 @@ no_clients seed scripts s d up new =
       reached = start;
       leads = stays start;
       last = start;
-      ended = (refl, up);
+      ended = (refl, inr (refl, up));
       state = refl;
       disk = refl;
       asked = asked_none (map asks_of scripts) s new.book;
@@ -416,7 +432,7 @@ module _ (seed y : ℕ) (same : y ≡ seed) (scripts : List (List Line)) (c : Cl
       reached = ran.reached;
       leads = subst (λ (p : Position). LeadsTo p ran.reached) start_is ran.leads;
       last = ran.reached;
-      ended = (refl, ran.ended.2);
+      ended = (refl, inl ran.ended.2);
       state = ran.ended.0 ∙ sym wound.0;
       disk = ran.ended.1 ∙ sym wound.1;
       asked = subst (λ (z : State). AreAsked (map asks_of scripts) z.book.entries ran.reached.clients) (sym wound.0) (ran.asked (map asks_of scripts) start_asked);

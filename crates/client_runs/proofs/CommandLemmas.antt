@@ -22,6 +22,7 @@ use Rattle.plan_drafts.specs.Prelude.{IsKnown, IsKnownOp}
 use Rattle.read_facts.specs.Prelude.{IsKnownRead}
 use Rattle.store_kernel.specs.Submitting.{RefusesBy, IsReadFail}
 use Rattle.store_kernel.specs.Reading.{UnansweredBy, IsDeviceRead}
+use Rattle.store_kernel.specs.ToRead.{AskNeedsDevice, NeedsDevice}
 use Rattle.store_kernel.specs.declared.unanswered.Unanswered.{Unanswered}
 use Rattle.store_kernel.specs.declared.unanswered.Unanswered.TheVariants as unanswered
 use Rattle.store_kernel.specs.declared.refused.Refused.{Refused}
@@ -129,7 +130,7 @@ made_refused client line change reply s d s' d' up may same none refuses =
 -- one that has no entry leaves the kernel as it was
 refused_same : (e : RunFail) (why : Refused) (client line : ℕ) (change : Change) (s : State) (d : Disk) (s' : State) (d' : Disk)
     → RefusesBy why client line change s d s' → d' ≡ d → IsNotNoted e (Err why) → IsUnmade e client line (command.Change change) s d s' d'
-refused_same run.DeviceRead (refused.DeviceRead back) client line change s d s' d' away same is = (away.0, same)
+refused_same run.DeviceRead (refused.DeviceRead back) client line change s d s' d' away same is = (away.0, same, away.2)
 refused_same run.Memory (refused.Memory back) client line change s d s' d' away same is = (away.0, same)
 refused_same e why client line change s d s' d' away same is = absurd is
 
@@ -177,10 +178,15 @@ accepts_none : (c : Command) (a : Answer) → IsKnownRead c → is_some (accepte
 accepts_none (command.Change change) a known = absurd known
 accepts_none c a known = refl
 
+-- of a read it is known what that needs
+read_needs : (c : Command) (s : State) → IsKnownRead c → AskNeedsDevice c s → NeedsDevice c s
+read_needs (command.Change change) s known needs = absurd known
+read_needs c s known needs = needs
+
 -- a read that has no answer leaves the kernel as it was
 unanswered_same : (e : RunFail) (why : Unanswered) (client line : ℕ) (c : Command) (s : State) (d : Disk) (s' : State) (d' : Disk) → IsKnownRead c
     → UnansweredBy why c s s' → d' ≡ d → IsFailOf e (Err why) → IsUnmade e client line c s d s' d'
-unanswered_same run.DeviceRead (unanswered.DeviceRead back) client line c s d s' d' may away same is = (away.0, same)
+unanswered_same run.DeviceRead (unanswered.DeviceRead back) client line c s d s' d' may away same is = (away.0, same, read_needs c s may away.2)
 unanswered_same run.Memory (unanswered.Memory back) client line c s d s' d' may away same is = (away.0, same)
 unanswered_same e why client line c s d s' d' may away same is = absurd is
 

@@ -4,12 +4,13 @@ use Rattle.block_device.specs.Prelude.{Disk, IsSound}
 use Rattle.store_steps.specs.declared.step.Step.{Step}
 use Rattle.store_steps.specs.declared.step.Step.TheVariants.{Reap}
 use Rattle.store_steps.specs.Prelude.{State, is_ready, Takes, Does, DoesOrFails, stepping}
+use Rattle.store_kernel.specs.Steps.{TakesMemory}
 use Rattle.store_kernel.specs.declared.step_fail.StepFail.{StepFail}
 use Rattle.store_kernel.specs.declared.step_fail.StepFail.TheVariants as fail
 use Rattle.client_runs.specs.declared.clients.Clients.{Clients}
 use Rattle.client_runs.specs.declared.drawing.Drawn.{Drawn}
 use Rattle.client_runs.specs.declared.drawing.Drawn.TheVariants as drawn
-use Rattle.client_runs.specs.Prelude.{Ask, ready_list, at_position, LeadsTo, able_of, lefts, AreTied, IsDrawnFrom, IsNothing, position_of, StepsOn, DrawsClient, DrawsNothing, StopsAs}
+use Rattle.client_runs.specs.Prelude.{Ask, ready_list, possible_calls, turned, IsDrawnOf, at_position, LeadsTo, LacksMemory, able_of, lefts, AreTied, IsDrawnFrom, IsNothing, position_of, StepsOn, DrawsClient, DrawsNothing, StopsAs}
 use Rattle.client_runs.proofs.DrawLemmas.{ready_passes, drawn_step, no_calls}
 use Rattle.client_runs.proofs.RunLemmas.{stays, leads_more, IsUpWith, step_keeps, does_well, bad_end_down, bad_end_same}
 
@@ -27,6 +28,20 @@ given l able ready x field item x' same is from =
 
 pub none_given : (l able : List ℕ) (ready : List Step) (x x' : ℕ) → l ≡ able → IsNothing l ready x x' → IsNothing able ready x x'
 none_given l able ready x x' same none = subst (λ (z : List ℕ). IsNothing z ready x x') same none
+
+-- a step that was drawn, and takes memory, had none
+lacks_memory : (x x' : ℕ) (clients : List (List Ask)) (s : State) (d : Disk) (s' : State) (d' : Disk) (step : Step) → s.down ≡ None → x' ≡ turned x
+    → TakesMemory step → s' ≡ s → d' ≡ d → IsDrawnOf x' (possible_calls clients s.book (ready_list d.depth s)) (stepping step)
+    → LacksMemory (at_position x clients s' d')
+lacks_memory x x' clients s d s' d' step up turn takes same disk from =
+    let here : LacksMemory (at_position x clients s d) = record {
+      up = up;
+      call = stepping step;
+      drawn = subst (λ (n : ℕ). IsDrawnOf n (possible_calls clients s.book (ready_list d.depth s)) (stepping step)) turn from;
+      takes = takes;
+    } in
+    subst (λ (z : Disk). LacksMemory (at_position x clients s' z)) (sym disk)
+    (subst (λ (z : State). LacksMemory (at_position x clients z d)) (sym same) here)
 
 -- ---- between the commands of clients
 
@@ -76,7 +91,7 @@ module _ (x0 : ℕ) (c0 : Clients) (s0 : State) (d0 : Disk) (x : ℕ) (c : Clien
   -- a step that fails
   pub steps_stop : (e : StepFail) (step : Step) (x' : ℕ) (s' : State) (d' : Disk)
       → IsDrawnFrom c.able.items (ready_list d.depth s) x (drawn.Step step) x' → IsSound d'
-      → (e ≡ fail.Fault → (step ≡ Reap) × Takes s d false s' d') → (e ≡ fail.Memory → (s' ≡ s) × (d' ≡ d))
+      → (e ≡ fail.Fault → (step ≡ Reap) × Takes s d false s' d') → (e ≡ fail.Memory → TakesMemory step × (s' ≡ s) × (d' ≡ d))
       → StopsAs (Some e) (position_of x0 c0 s0 d0) s' d'
   steps_stop fail.Memory step x' s' d' from sound fault memory =
       let same = memory refl in
@@ -84,10 +99,13 @@ module _ (x0 : ℕ) (c0 : Clients) (s0 : State) (d0 : Disk) (x : ℕ) (c : Clien
       subst (λ (l : List (List Ask)). LeadsTo (position_of x0 c0 s0 d0) (at_position x l s d)) so_far.same so_far.leads in
       record {
         x = x;
-        leads = subst (λ (z : Disk). LeadsTo (position_of x0 c0 s0 d0) (at_position x (lefts c0.all.items) s' z)) (sym same.1)
-            (subst (λ (z : State). LeadsTo (position_of x0 c0 s0 d0) (at_position x (lefts c0.all.items) z d)) (sym same.0) here);
-        ended = ap (λ (z : State). z.down) same.0 ∙ so_far.up;
-        entries = ap (λ (z : State). z.book.entries) same.0 ∙ so_far.entries;
+        leads = subst (λ (z : Disk). LeadsTo (position_of x0 c0 s0 d0) (at_position x (lefts c0.all.items) s' z)) (sym same.2)
+            (subst (λ (z : State). LeadsTo (position_of x0 c0 s0 d0) (at_position x (lefts c0.all.items) z d)) (sym same.1) here);
+        ended = lacks_memory x x' (lefts c0.all.items) s d s' d' step so_far.up from.turn same.0 same.1 same.2
+            (subst (λ (l : List (List Ask)). IsDrawnOf x' (possible_calls l s.book (ready_list d.depth s)) (stepping step)) so_far.same
+            (drawn_step c.all.items s.book (ready_list d.depth s) x x' so_far.tied.clients_are.well so_far.tied.counts step
+            (from_able (drawn.Step step) x' from)));
+        entries = ap (λ (z : State). z.book.entries) same.1 ∙ so_far.entries;
       }
   steps_stop fail.Fault step x' s' d' from sound fault memory =
       let bad = fault refl in
@@ -153,16 +171,17 @@ module _ (x0 : ℕ) (s0 : State) (d0 : Disk) (x : ℕ) (s : State) (d : Disk) (s
   }
 
   pub drain_stops : (e : StepFail) (step : Step) (x' : ℕ) (s' : State) (d' : Disk) → IsDrawnFrom [] (ready_list d.depth s) x (drawn.Step step) x'
-      → IsSound d' → (e ≡ fail.Fault → (step ≡ Reap) × Takes s d false s' d') → (e ≡ fail.Memory → (s' ≡ s) × (d' ≡ d))
+      → IsSound d' → (e ≡ fail.Fault → (step ≡ Reap) × Takes s d false s' d') → (e ≡ fail.Memory → TakesMemory step × (s' ≡ s) × (d' ≡ d))
       → StopsAs (Some e) (at_position x0 [] s0 d0) s' d'
   drain_stops fail.Memory step x' s' d' from sound fault memory =
       let same = memory refl in
       record {
         x = x;
-        leads = subst (λ (z : Disk). LeadsTo (at_position x0 [] s0 d0) (at_position x [] s' z)) (sym same.1)
-            (subst (λ (z : State). LeadsTo (at_position x0 [] s0 d0) (at_position x [] z d)) (sym same.0) so_far.leads);
-        ended = ap (λ (z : State). z.down) same.0 ∙ so_far.here.up;
-        entries = ap (λ (z : State). z.book.entries) same.0 ∙ so_far.here.same;
+        leads = subst (λ (z : Disk). LeadsTo (at_position x0 [] s0 d0) (at_position x [] s' z)) (sym same.2)
+            (subst (λ (z : State). LeadsTo (at_position x0 [] s0 d0) (at_position x [] z d)) (sym same.1) so_far.leads);
+        ended = lacks_memory x x' [] s d s' d' step so_far.here.up from.turn same.0 same.1 same.2
+            (drawn_step [] s.book (ready_list d.depth s) x x' tt tt step from);
+        entries = ap (λ (z : State). z.book.entries) same.1 ∙ so_far.here.same;
       }
   drain_stops fail.Fault step x' s' d' from sound fault memory =
       let bad = fault refl in

@@ -6,6 +6,7 @@ use Rattle.object_model.specs.declared.book.Entry.{Entry}
 use Rattle.object_model.specs.declared.command.Command.{Command}
 use Rattle.store_steps.specs.declared.step.Step.{Step}
 use Rattle.store_steps.specs.Prelude.{State, Calls}
+use Rattle.store_kernel.specs.ToRead.{NeedsDevice}
 use Rattle.store_kernel.specs.declared.refused.Refused.{Refused}
 use Rattle.store_kernel.specs.declared.refused.Refused.TheVariants as refused
 use Rattle.store_kernel.specs.declared.step_fail.StepFail.{StepFail}
@@ -132,10 +133,10 @@ pub record IsMade (client line : ℕ) (command : Command) (accepted : Bool) (s :
   pub commits : s'.book.commits ≡ s.book.commits
   pub accepted_is : is_accepted_of client entry ≡ accepted
 
--- the command has no entry, since the device failed at a read or memory ran out, and nothing changed
+-- the command has no entry, since the device failed at a read that it needs or memory ran out, and nothing changed
 abbrev pub IsUnmade : RunFail → ℕ → ℕ → Command → State → Disk → State → Disk → Type 0
 IsUnmade run.Fault client line command s d s' d' = ⊥
-IsUnmade run.DeviceRead client line command s d s' d' = (s' ≡ s) × (d' ≡ d)
+IsUnmade run.DeviceRead client line command s d s' d' = (s' ≡ s) × (d' ≡ d) × NeedsDevice command s
 IsUnmade run.Memory client line command s d s' d' = (s' ≡ s) × (d' ≡ d)
 
 -- the next command of a client was made, and the client goes on behind it

@@ -1,4 +1,10 @@
 //! The clients of a run, and which of them can go on.
+//!
+//! The clients of a run keep, for each client, the lines that are left, whether a `wait` stands before the next, and how many of its
+//! transactions are under way; and the ascending numbers of those that can go on. A number joins or leaves these where its client was
+//! asked or one of its transactions was acknowledged, and no other client is looked at then. So a draw costs the same with one client and
+//! with 64, and no call goes over the book. Whose transaction `Finish` acknowledges is looked up: the next commit has its place in the
+//! book, and the entry there its client.
 ghost use Rattle.std.specs.Prelude.{◌≡◌, ◌<◌, ◌≤◌, length, map, true, false, IfOk, if◌then◌else◌};
 ghost use Rattle.client_runs.specs.Clients.{is_able, able_of, below, able_after, changed, IsOfOne, AreClients, AreNewClients, TakesOf, one_more, one_less};
 

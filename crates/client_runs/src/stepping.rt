@@ -2,6 +2,7 @@
 ghost use Rattle.std.specs.Prelude.{◌≡◌, ◌≤◌, ◌<◌, [], None, Some, length, true, false, OnOk, IsErrOf, MatchResult};
 ghost use Rattle.block_device.specs.Prelude.{Rose};
 ghost use Rattle.store_steps.specs.Prelude.{is_ready, Does, Takes};
+ghost use Rattle.store_kernel.specs.Steps.{TakesMemory};
 ghost use Rattle.store_steps.specs.declared.step.Step.TheVariants.{Reap, Finish};
 ghost use Rattle.book_facts.specs.Prelude.{IsInOrder};
 ghost use Rattle.client_runs.specs.Choice.{at_position};
@@ -41,7 +42,7 @@ fn acknowledge<D: Device>(
     ensures tied { OnOk result (AreTied clients.new kernel.new.state) }
     ensures left { lefts clients.new.all.items ≡ lefts clients.old.all.items }
     ensures fault { ¬ IsErrOf result StepFail.Fault }
-    ensures memory { IsErrOf result StepFail.Memory → (kernel.new.state ≡ kernel.old.state) × (D.disk kernel.new.device ≡ D.disk kernel.old.device) }
+    ensures memory { ¬ IsErrOf result StepFail.Memory }
     ensures later { D.faults kernel.old.device ≤ D.faults kernel.new.device }
 {
     kernel.facts();
@@ -69,7 +70,8 @@ fn make_step<D: Device>(
     ensures fault { IsErrOf result StepFail.Fault → (step ≡ Reap)
         × Takes kernel.old.state (D.disk kernel.old.device) false kernel.new.state (D.disk kernel.new.device)
         × Rose (D.faults kernel.old.device) (D.faults kernel.new.device) }
-    ensures memory { IsErrOf result StepFail.Memory → (kernel.new.state ≡ kernel.old.state) × (D.disk kernel.new.device ≡ D.disk kernel.old.device) }
+    ensures memory { IsErrOf result StepFail.Memory → TakesMemory step × (kernel.new.state ≡ kernel.old.state)
+        × (D.disk kernel.new.device ≡ D.disk kernel.old.device) }
     ensures later { D.faults kernel.old.device ≤ D.faults kernel.new.device }
 {
     kernel.facts();

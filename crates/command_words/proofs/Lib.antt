@@ -1,2 +1,8 @@
-pub mod Numbers
-pub mod Words
+pub mod Names
+pub mod Found
+pub mod Says
+pub mod Taken
+pub mod Walks
+pub mod TakenLines
+pub mod OneLine
+pub mod Spelled

@@ -1,2 +1,4 @@
 pub mod FileNames
+pub mod Table
 pub mod CommandLine
+pub mod Spelling

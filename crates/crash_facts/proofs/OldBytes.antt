@@ -1,6 +1,6 @@
 -- The old bytes over which a transaction is planned are those that units hold to which its pages map, in memory or as last written; and none
 -- of these units is bad.
-use Rattle.std.proofs.Common.{◌≡◌, ℕ, List, [], ◌∷◌, ◌++◌, None, refl, sym, subst, ◌∙◌}
+use Rattle.std.proofs.Common.{◌≡◌, ℕ, List, [], ◌∷◌, ◌++◌, map, Option, None, refl, sym, subst, ◌∙◌}
 use Rattle.std.specs.List.{AllByRecursion, flat_map}
 use Rattle.unit_fields.specs.declared.width.Width.{Width}
 use Rattle.block_device.specs.Prelude.{Disk, History}
@@ -9,10 +9,11 @@ use Rattle.meta_rows.specs.Prelude.{Rows}
 use Rattle.meta_log.specs.Prelude.{width_of}
 use Rattle.row_format.specs.Prelude.{Place, own}
 use Rattle.store_image.specs.Prelude.{HasPage}
-use Rattle.read_facts.specs.Prelude.{IsHeldAt, IsFound, IsFirstBadUnit}
+use Rattle.read_facts.specs.Prelude.{IsHeldAt, IsFound, AreGoodPlaces, IsFirstBadUnit}
+use Rattle.read_facts.proofs.Places.{good_is_found}
 use Rattle.read_facts.proofs.Seen.{found_is, place_not_bad}
 use Rattle.plan_rows.specs.declared.plan.ReadUnit.{ReadUnit}
-use Rattle.plan_drafts.specs.Prelude.{own_units, AsksFor}
+use Rattle.plan_drafts.specs.Prelude.{own_units, places_of, AsksFor}
 use Rattle.plan_drafts.proofs.Reading.{IsPageOf, asked_places, units_have_pages, plan_read}
 use Rattle.store_steps.specs.Prelude.{State, intents, uncommitted, memory_of, MeetsBadUnit, AcceptsOne}
 use Rattle.run_facts.specs.Prelude.{IsKept}
@@ -28,6 +29,20 @@ pub asked_units : (w : Width) (change : Change) (rows : Rows) (need : ℕ) (plac
 asked_units w change rows need places asks = units_have_pages w rows places (asked_places w change rows need places asks)
 
 -- ---- what is read of them
+
+-- what was read of good places is what their units are found to hold
+each_found : (memory : ℕ → Option (List ℕ)) (held : ℕ → List ℕ → Type 0) (places : List Place) (read : List ReadUnit)
+    → map (λ r. r.unit) read ≡ flat_map own_units places → AreGoodPlaces memory held places (map (λ r. r.bytes) read)
+    → AllByRecursion (λ r. IsFound memory held r.unit r.bytes) read
+each_found memory held [] [] units good = tt
+each_found memory held [] (r ∷ read) units good = absurd good
+each_found memory held (own unit csum ∷ places) [] units good = absurd good
+each_found memory held (own unit csum ∷ places) (r ∷ read) units good =
+    let first : r.unit ≡ unit = cc in
+    let rest : map (λ (q : ReadUnit). q.unit) read ≡ flat_map own_units places = cc in (
+      subst (λ (u : ℕ). IsFound memory held u r.bytes) (sym first) (good_is_found memory held unit csum r.bytes good.0),
+      each_found memory held places read rest good.1,
+    )
 
 module _ (base : ℕ) (opening : Objects) (s s' : State) (d : Disk) (h : History) (kept : IsKept s d) (up : s.down ≡ None)
     (known : KnownOfStore base opening s d h) where
@@ -45,7 +60,8 @@ module _ (base : ℕ) (opening : Objects) (s s' : State) (d : Disk) (h : History
   -- so the old bytes over which an accepted transaction was planned are held
   pub old_bytes : (one : AcceptsOne s d s') → HoldsOldBytes s h one.accepts.plan
   old_bytes one = holds one.accepts.plan.read
-      (plan_read (width_of s.log.sup) one.change s.submitted s.space one.accepts.plan one.accepts.plans) one.accepts.read
+      (plan_read (width_of s.log.sup) one.change s.submitted s.space one.accepts.plan one.accepts.plans)
+      (each_found (memory_of s) (IsHeldAt d) (places_of one.change.ops one.accepts.plans.start) one.accepts.plan.read one.accepts.plans.read.units one.accepts.read)
 
 -- no unit whose old bytes are asked for is bad
 pub meets_none : (base : ℕ) (opening : Objects) (s : State) (d : Disk) (h : History) → IsKept s d → s.down ≡ None → KnownOfStore base opening s d h

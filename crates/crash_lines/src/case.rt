@@ -1,9 +1,10 @@
 //! What the lines of a case work on.
 
 use crate::last::Last;
+use crate::told::{scripts_of, told_by};
 use case_text::{CaseError, Setup, Text, Words, small};
 use object_model::Book;
-use plain_reader::{Judge, Past};
+use plain_reader::{Judge, Past, Told};
 use run_lines::{Case, Commands};
 use std::alloc::Global;
 use std::mem;
@@ -17,6 +18,8 @@ pub struct Sweep<C: Commands> {
     colls: u32,
     /// The runs before the last one.
     history: Vec<Past>,
+    /// The transactions that the last run accepted, by their places in its book.
+    told: Vec<Told>,
     /// What the images of the last run may be.
     pub judge: Judge,
 }
@@ -30,6 +33,7 @@ impl<C: Commands> Sweep<C> {
             case: Case::of(setup),
             colls: 1,
             history: Vec::new(alloc),
+            told: Vec::new(alloc),
             judge: Judge::of(alloc),
         }
     }
@@ -55,20 +59,34 @@ impl<C: Commands> Sweep<C> {
         self.case.run_line(line.as_str())
     }
 
+    /// Keeps what the last run accepted. The words are those of the run.
+    fn keep_told(&mut self, mut words: Words<'_>) -> Result<(), CaseError> {
+        words.next()?;
+        let scripts = scripts_of(&self.case.setup, words)?;
+        self.told = told_by(self.alloc, scripts, &self.case.ran.book)?;
+        Ok(())
+    }
+
     /// Runs scripts on the store `dev`, whose objects are those behind the earlier runs, and sees what the images of this run may be.
     pub fn step(&mut self, words: Words<'_>) -> Result<(), CaseError> {
         self.run_step(words)?;
+        self.keep_told(words)?;
         let start = self.case.setup.bytes("dev")?;
+        let book = &self.case.ran.book;
         self.judge
-            .follow(self.colls, start, &self.history, &self.case.ran.book)
+            .follow(self.colls, start, &self.history, book, &self.told)
     }
 
     /// Takes the last run into the history, with none of its commits.
     pub fn remember(&mut self) -> Result<(), CaseError> {
         let book = mem::replace(&mut self.case.ran.book, Book::new(self.alloc));
-        self.history
-            .push(Past { book, count: 0 })
-            .map_err(CaseError::from)
+        let told = mem::replace(&mut self.told, Vec::new(self.alloc));
+        let past = Past {
+            book,
+            told,
+            count: 0,
+        };
+        self.history.push(past).map_err(CaseError::from)
     }
 
     /// Goes on from an image that has so many commits of the newest run in the history: puts it under the name `dev`.

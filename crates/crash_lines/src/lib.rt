@@ -1,5 +1,7 @@
 //! Crashes of runs over devices in memory. The device's log is cut at its events and what is dirty torn in each way, and the plain
 //! reader says which objects it finds. What runs a command line is a parameter.
+//!
+//! Proved: nothing but that it is total: it is safe and returns.
 #![tactic(auto)]
 
 mod again;
@@ -7,5 +9,7 @@ mod case;
 mod dumped;
 mod last;
 mod lines;
+mod told;
 
 pub use case::Sweep;
+pub use told::{Script, scripts_of, told_by};

@@ -7,6 +7,7 @@ use std::fs;
 use std::fs::File;
 use std::rt::Files;
 use std::test::Fail;
+use std::time::Clock;
 
 // A submission to a device.
 #[derive(Clone, Copy)]
@@ -61,7 +62,7 @@ fn contents(alloc: Global, device: &mut SyncFile) -> Result<Vec<u8>, Failed> {
 
 // All bytes of a file that is opened, or made of so many units.
 fn bytes_of(
-    rt: &(impl AllocGlobal + Files<File = File>),
+    rt: &(impl AllocGlobal + Clock + Files<File = File>),
     path: &str,
     make: Option<u16>,
 ) -> Result<Vec<u8>, Failed> {

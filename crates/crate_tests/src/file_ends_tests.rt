@@ -9,6 +9,7 @@ use std::alloc::{AllocError, Global};
 use std::fs::{self, File, OpenOptions};
 use std::rt::Files;
 use std::test::Fail;
+use std::time::Clock;
 
 fn is_few(how: How) -> bool
     ensures { IsTrue result → IsFewUnits how }
@@ -20,7 +21,7 @@ fn is_few(how: How) -> bool
 }
 
 // How many units a device has that is asked for, or None at a fault.
-fn units<R: Files<File = File> + Copy>(
+fn units<R: Files<File = File> + Clock + Copy>(
     bay: &mut FileBay<R>,
     name: &str,
     how: How,
@@ -51,7 +52,7 @@ fn devices_by_their_paths(rt: HostRuntime) -> Result<(), Fail> {
 }
 
 // What two reads of a script give, of at most four bytes each, or None at a fault.
-fn text_of<R: Files<File = File> + Copy>(
+fn text_of<R: Files<File = File> + Clock + Copy>(
     alloc: Global,
     bay: &mut FileBay<R>,
     name: &str,
@@ -90,7 +91,7 @@ fn failing_writes(rt: HostRuntime) -> Result<(), Fail> {
     let full = OpenOptions::new().write(true).open(&rt, "/dev/full")?;
     let no_output = File::open(&rt, "/dev/null")?;
     for file in [full, no_output] {
-        assert_eq!(rt; OutSink::new(file).write(b"64"), Err(Fault));
+        assert_eq!(rt; OutSink::new(file, rt).write(b"64"), Err(Fault));
     }
     Ok(())
 }

@@ -1,5 +1,7 @@
 //! Tests of the crates below the store: what no clause of theirs says, in memory and over real files. Each module is of the crate that it is
 //! named after, and makes its public calls. They stand here and not in those crates, since a crate that has tests is proved twice.
+//!
+//! Proved: nothing but that it is total: it is safe and returns.
 #![tactic(auto)]
 
 #[cfg(test)]

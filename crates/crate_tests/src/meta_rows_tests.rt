@@ -7,6 +7,9 @@ use std::alloc::{AllocError, Global};
 const EARLIER: &[u8] =
     b"\x01\x01\0f\x01\0\0\0\x0f\x01\x01\0c\x02\0\0\0\x01\x02\x01\x01\0x\x01\0\0\0o";
 
+// A set, and a drop of a whose last byte is missing.
+const CUT: &[u8] = b"\x01\x01\0f\x01\0\0\0\x0f\x02\x01\0";
+
 // Out of order, with keys that come up to four times, each operation in a line: sets have the code 1, drops 2 and flips 3.
 const BATCH: &[u8] = b"\x01\x01\0m\x01\0\0\0\x01\
     \x03\x01\0c\x01\0\0\0\x01\
@@ -110,13 +113,15 @@ fn chunks_of_few(alloc: Global) -> Result<usize, AllocError> {
     chunks_after(alloc, &[(&sets, 0), (&drops, 0), (b"", 0)])
 }
 
-/// Which comes out otherwise: the rows of a batch, the chunks of few rows, or those where there is much room, and where there was.
+/// Which comes out otherwise: the rows of a batch, operations that are cut by a byte, the chunks of few rows, or those where there is much
+/// room, and where there was.
 ///
 /// At most 32 chunks are spare, and a chunk has at most 128 rows.
 pub fn first_wrong(alloc: Global) -> Result<Option<usize>, AllocError> {
     let few = chunks_of_few(alloc)?;
     Ok(first_false(&[
         are_later(alloc)?,
+        decode(alloc, CUT)?.is_none(),
         8 <= few,
         few <= 1000 * 2 / 65 + 1 + 32,
         chunks_after(alloc, &[(EARLIER, 100_000)])? > 3000,

@@ -91,11 +91,12 @@ fn after_a_million(alloc: Global) -> Result<Option<(u32, usize)>, AllocError> {
     }
 }
 
-/// Which comes out otherwise: the lowest units, a hold, or many units.
+/// Which comes out otherwise: the lowest units, a hold, more units than are free, or many units.
 pub fn first_wrong(alloc: Global) -> Result<Option<usize>, AllocError> {
     Ok(first_false(&[
         are_lowest(alloc)?,
         is_held(alloc)?,
+        take(alloc, &mut few(alloc)?, 5).is_none(),
         after_a_million(alloc)? == Some((988_078, 506)),
     ]))
 }

@@ -4,6 +4,11 @@
 //! a multiple leaves no remainder. So a byte may be taken out if it is put, by exclusive or, on the bytes 154, 177, 183,
 //! 258 and 290 places behind it. All these are more than sixteen places off, so sixteen bytes go at once. Only the last
 //! 304 bytes, with what was put on them, are left to the tables, and at most fifteen behind them.
+//!
+//! From 768 bytes on, bytes are summed by folding: a multiple of the polynomial with six terms says on which later bytes a byte may be
+//! put, so that only the last 304 to 319 of a message go by tables. Its nearest term is 154 bytes off, so that sixteen bytes go at once
+//! and none waits for one just written; a shorter multiple with a term 65 bytes off was slower. What was taken out stands in a buffer of
+//! 1554 bytes, whose last 290 move to the front after each 1264.
 
 ghost use Rattle.std.specs.Prelude.{
   ◌≡◌,

@@ -14,6 +14,7 @@ use std::io::{self, ErrorKind};
 use std::marker::Model;
 use std::os::unix::fs::FileExt;
 use std::rt::Files;
+use std::time::Clock;
 
 const DEPTH: u32 = 64;
 
@@ -104,7 +105,8 @@ impl SyncFile {
     ///
     /// - It is opened. What is neither a regular file nor a block device is a fault, and isn't opened at all.
     /// - It is locked, for as long as this value lives, since two programs that write one store at once lose what each of
-    ///   them acknowledged. What another opening has locked is a fault, and nothing of it was read or changed.
+    ///   them acknowledged. A lock that another opening has is asked for again for about a second, since a watcher of the system
+    ///   may have it for a moment; then it is a fault, and nothing of the device was read or changed.
     /// - A file that is made gets its length.
     /// - It is flushed, since a program that was killed leaves its last writes in the system's cache: they read as if they
     ///   were stable, and are gone after a loss of power.
@@ -113,7 +115,7 @@ impl SyncFile {
     /// What was written before is stable from here on, so the first flush has nothing to do unless something is written before
     /// it. One thing no call here can undo: after a flush that failed, the system may keep a page that isn't on the disk and
     /// call it clean. Who opens a device after such a run has the system drop its pages first, as the script `bstore` does.
-    pub fn open<R: Files<File = File>>(
+    pub fn open<R: Files<File = File> + Clock>(
         rt: &R,
         alloc: Global,
         path: &str,

@@ -1,5 +1,9 @@
 //! What a store meets at its ends: where its text comes from and goes to, who hands it devices and
 //! scripts by name, and who is asked before each turn. Each as a trait, and in memory for tests.
+//!
+//! Proved: bytes read are the next ones, bytes written are appended, a device that is handed out is fresh and has its name's contents
+//! (each where it is told). A fault is answered only where a count rose, and a call that went well has counted none (clause `kept`); nor
+//! has a read of a source that wanted memory (`memory`).
 #![tactic(auto)]
 
 mod bay;

@@ -2,6 +2,11 @@
 //!
 //! In Ceph's BlueStore this is `ExtentMap::reshard` and `ExtentMap::fault_range`. Here a map is split into shards without a copy of its pages,
 //! and their rows are written straight from them; the other way rows are read straight into a map, without the extents between.
+//!
+//! Proved: the shards of a map are its extents, cut so that an extent joins a shard where the shard's bytes stay within the bound, and
+//! else begins the next; each shard is within the bound, or has one extent alone; without a bound there is one. `encode` is the spelling
+//! of a shard's extents, and `add` puts the pages of the extents that a value spells in their places. Whatever the bound, the shards of a
+//! map, joined, are the map.
 #![tactic(auto)]
 
 mod joining;

@@ -1,4 +1,7 @@
 //! Some of the pages of a map, whose extents stand in one row.
+//!
+//! A shard that is to be written lends its pages from the map and is seen as their extents, and its value is written straight from them;
+//! one that is read goes straight into the map. No list of extents with checksums of its own stands between.
 ghost use Rattle.std.specs.Prelude.{◌≡◌, ◌<◌, length, IfOk};
 ghost use Rattle.row_format.specs.Prelude.{BeginsAt};
 ghost use Rattle.blob_map.specs.Prelude.{extents_of};

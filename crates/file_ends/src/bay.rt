@@ -14,13 +14,14 @@ use std::alloc::Global;
 use std::fs::File;
 use std::marker::Model;
 use std::rt::Files;
+use std::time::Clock;
 
 /// Hands out the files of the system by their paths. Each call of the system that fails is a fault, of which it keeps the
 /// count. A device works each write and flush where it is submitted, also where it was asked for as queued.
 ///
 /// A bay that couldn't make sure of the standard descriptors opens nothing: then each of its calls is a fault.
 #[derive(Drop)]
-pub struct FileBay<R: Files<File = File> + Copy> {
+pub struct FileBay<R: Files<File = File> + Clock + Copy> {
     rt: R,
     alloc: Global,
     standard: Option<StandardDescriptors>,
@@ -28,7 +29,7 @@ pub struct FileBay<R: Files<File = File> + Copy> {
     fault_count: u64,
 }
 
-impl<R: Files<File = File> + Copy> Model for FileBay<R> {
+impl<R: Files<File = File> + Clock + Copy> Model for FileBay<R> {
     ghost use Rattle.file_ends.specs.Shelf.{Shelf};
 
     ghost Value = { Shelf };
@@ -37,7 +38,7 @@ impl<R: Files<File = File> + Copy> Model for FileBay<R> {
 }
 
 // Opens a device, made of so many units or as it is there.
-fn open_device<R: Files<File = File>>(
+fn open_device<R: Files<File = File> + Clock>(
     rt: &R,
     alloc: Global,
     name: &str,
@@ -75,7 +76,7 @@ fn faults_after(count: u64, failed: Failed) -> u64
     }
 }
 
-impl<R: Files<File = File> + Copy> FileBay<R> {
+impl<R: Files<File = File> + Clock + Copy> FileBay<R> {
     /// A bay over the system's files, which makes sure of the standard descriptors first.
     pub fn new(rt: R, alloc: Global) -> FileBay<R>
         ensures { result ≡ record { given = 0; faults = 0 } }
@@ -91,7 +92,7 @@ impl<R: Files<File = File> + Copy> FileBay<R> {
     }
 }
 
-impl<R: Files<File = File> + Copy> Bay for FileBay<R> {
+impl<R: Files<File = File> + Clock + Copy> Bay for FileBay<R> {
     type Dev = SyncFile;
 
     type Src = FileSource;

@@ -1,12 +1,10 @@
 //! Many transactions at a time.
 
+use crate::mounted::Mounted;
 use crate::stepping::step_if_ready;
-use crate::submitting::{print_refused, submitted, transaction};
-use block_device::MemoryDevice;
+use crate::submitting::print_refused;
 use case_text::{CaseError, Text, Words};
 use plain_reader::COLLS;
-use std::alloc::Global;
-use store_kernel::{Kernel, Refused};
 use store_steps::Step;
 
 /// The most objects of one `crowd`.
@@ -28,27 +26,12 @@ const TURN: [Step; 12] = [
     Step::Finish,
 ];
 
-/// Submits the transaction of a line.
-fn submit_line(
-    alloc: Global,
-    kernel: &mut Kernel<MemoryDevice>,
-    line: &str,
-) -> Result<Result<u32, Refused>, CaseError> {
-    let txn = transaction(alloc, Words::new(line))?;
-    Ok(submitted(alloc, kernel, txn))
-}
-
 /// Follows `crowd COLL`, from its second word on: submits new objects until one is refused, and shows how many were accepted.
-pub fn crowd(
-    alloc: Global,
-    kernel: &mut Kernel<MemoryDevice>,
-    words: Words<'_>,
-    out: &mut Text,
-) -> Result<(), CaseError> {
+pub fn crowd(mounted: &mut Mounted, words: Words<'_>, out: &mut Text) -> Result<(), CaseError> {
     let coll = words.last()?;
     for count in 0..MOST_OBJECTS {
-        let line = format!(in alloc; "{coll} touch crowd{count}")?;
-        if let Err(why) = submit_line(alloc, kernel, line.as_str())? {
+        let line = format!(in mounted.alloc; "{coll} touch crowd{count}")?;
+        if let Err(why) = mounted.submit_words(Words::new(line.as_str()))? {
             out.print(format_args!("{count} accepted, then "));
             print_refused(&why, out);
             drop(why);
@@ -59,17 +42,13 @@ pub fn crowd(
 }
 
 /// Submits a page: those of equal number modulo 100 are of one object.
-fn submit_page(
-    alloc: Global,
-    kernel: &mut Kernel<MemoryDevice>,
-    number: u64,
-) -> Result<(), CaseError> {
+fn submit_page(mounted: &mut Mounted, number: u64) -> Result<(), CaseError> {
     let Some(coll) = COLLS.get((number % 4) as usize) else {
         return Err(CaseError::Line("no such collection"));
     };
     let (object, byte) = (number % 100, number % 251);
-    let line = format!(in alloc; "{coll} write o{object} 0 fill:4096:{byte:02x}")?;
-    match submit_line(alloc, kernel, line.as_str())? {
+    let line = format!(in mounted.alloc; "{coll} write o{object} 0 fill:4096:{byte:02x}")?;
+    match mounted.submit_words(Words::new(line.as_str()))? {
         Ok(_) => Ok(()),
         Err(why) => {
             drop(why);
@@ -79,22 +58,18 @@ fn submit_page(
 }
 
 /// Submits so many pages, from this number on.
-fn submit_pages(
-    alloc: Global,
-    kernel: &mut Kernel<MemoryDevice>,
-    count: u64,
-) -> Result<(), CaseError> {
+fn submit_pages(mounted: &mut Mounted, count: u64) -> Result<(), CaseError> {
     for number in 0..count {
-        submit_page(alloc, kernel, number)?;
+        submit_page(mounted, number)?;
     }
     Ok(())
 }
 
 /// Submits a page, and commits that which waits before all others.
-fn turn(alloc: Global, kernel: &mut Kernel<MemoryDevice>, number: u64) -> Result<(), CaseError> {
-    submit_page(alloc, kernel, number)?;
+fn turn(mounted: &mut Mounted, number: u64) -> Result<(), CaseError> {
+    submit_page(mounted, number)?;
     for step in TURN {
-        match step_if_ready(alloc, kernel, step) {
+        match step_if_ready(mounted.alloc, &mut mounted.kernel, step) {
             Some(Ok(())) => {}
             _ => return Err(CaseError::Line("a step isn't done")),
         }
@@ -105,15 +80,14 @@ fn turn(alloc: Global, kernel: &mut Kernel<MemoryDevice>, number: u64) -> Result
 /// Follows `waiting COUNT TURNS`, from its second word on: submits so many pages, and then, so many times, submits one more and commits
 /// that which waits before all others.
 pub fn wait_beside(
-    alloc: Global,
-    kernel: &mut Kernel<MemoryDevice>,
+    mounted: &mut Mounted,
     words: Words<'_>,
     out: &mut Text,
 ) -> Result<(), CaseError> {
     let [count, turns] = words.numbers::<2>()?;
-    submit_pages(alloc, kernel, count)?;
+    submit_pages(mounted, count)?;
     for number in 0..turns {
-        turn(alloc, kernel, count.wrapping_add(number))?;
+        turn(mounted, count.wrapping_add(number))?;
     }
     out.println(format_args!("{turns} committed, {count} wait"));
     Ok(())

@@ -38,9 +38,9 @@ fn all_dumps(alloc: Global, left: &Left) -> Result<Vec<Vec<u8>>, CaseError> {
 impl KernelLines {
     /// Takes the commits of the last mount into the history.
     pub fn remember(&mut self) -> Result<(), CaseError> {
-        if let Some(Left { dev: _, book }) = self.left.take() {
+        if let Some(Left { dev: _, book, told }) = self.left.take() {
             let count = book.commits.len();
-            self.history.push(Past { book, count })?;
+            self.history.push(Past { book, told, count })?;
         }
         Ok(())
     }

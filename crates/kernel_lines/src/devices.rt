@@ -8,7 +8,6 @@ use block_device::{Device, MemoryDevice};
 use case_text::{CaseError, Text, Words, last_written, print_piece};
 use mount_replay::{MkfsFail, MountFail, mkfs, mount};
 use object_model::Book;
-use plain_reader::Left;
 use std::alloc::Global;
 use store_kernel::Kernel;
 
@@ -149,11 +148,7 @@ impl KernelLines {
 
     fn keep_mounted(&mut self, kernel: Kernel<MemoryDevice>, out: &mut Text) {
         let free = kernel.free_units();
-        let mounted = Mounted {
-            alloc: self.alloc,
-            kernel,
-        };
-        drop(self.mounted.replace(mounted));
+        drop(self.mounted.replace(Mounted::new(self.alloc, kernel)));
         out.println(format_args!("mounted free={free}"));
     }
 
@@ -163,11 +158,11 @@ impl KernelLines {
         let Some(mounted) = self.mounted.take() else {
             return Err(CaseError::Line("nothing is mounted"));
         };
-        let (dev, book) = mounted.close();
-        print_device(&dev, out);
-        print_book(&book, out);
-        let kept = self.keep(name, &dev);
-        drop(self.left.replace(Left { dev, book }));
+        let left = mounted.close();
+        print_device(&left.dev, out);
+        print_book(&left.book, out);
+        let kept = self.keep(name, &left.dev);
+        drop(self.left.replace(left));
         kept
     }
 

@@ -1,5 +1,7 @@
 //! Calls of the kernel over devices in memory, step by step, with making stores, mounting and unmounting them. A program
 //! of cases follows them.
+//!
+//! Proved: nothing but that it is total: it is safe and returns.
 #![tactic(auto)]
 
 mod asking;

@@ -8,12 +8,11 @@ use crate::drawing::Draws;
 use crate::lines::KernelLines;
 use crate::mounted::Mounted;
 use crate::stepping::{settle_in_order, step_if_ready};
-use crate::submitting::{submitted, transaction};
 use block_device::MemoryDevice;
 use case_text::{CaseError, Setup, Text, Words};
 use crc32c_csum::crc32c;
 use object_model::{Answer, Book};
-use plain_reader::{COLLS, Counts, Left, NAMES, apply, coll_of, name_of, objects_behind};
+use plain_reader::{COLLS, Counts, Left, NAMES, Told, apply, coll_of, name_of, objects_behind};
 use plain_store::Plain;
 use std::alloc::Global;
 use store_kernel::Refused;
@@ -47,6 +46,12 @@ impl Met {
             meta_full: false,
             right: 0,
             wrong: 0,
+        }
+    }
+
+    fn note_accepted(&mut self, told: Option<&Told>) {
+        if let Some(told) = told {
+            self.several = self.several || 1 < told.change.ops().len();
         }
     }
 
@@ -121,14 +126,11 @@ struct List {
 impl List {
     fn submit(&mut self) -> Result<(), CaseError> {
         let line = self.draws.transaction(self.alloc)?;
-        let txn = transaction(self.alloc, Words::new(line.as_str()))?;
-        let is_several = 1 < txn.ops().len();
-        let kernel = &mut self.mounted.kernel;
-        match submitted(self.alloc, kernel, txn) {
-            Ok(place) => {
-                self.met.several = self.met.several || is_several;
-                let entry = kernel.entries().get(place as usize);
-                apply(self.alloc, &mut self.accepted, entry)
+        match self.mounted.submit_words(Words::new(line.as_str()))? {
+            Ok(_) => {
+                let told = self.mounted.told.last();
+                self.met.note_accepted(told);
+                apply(self.alloc, &mut self.accepted, told)
             }
             Err(why) => {
                 self.met.note_refused(&why);
@@ -208,9 +210,9 @@ impl List {
             accepted: _,
             mut met,
         } = self;
-        let (dev, book) = mounted.close();
-        met.overtaken = met.overtaken || is_overtaken(&book);
-        (Left { dev, book }, met)
+        let left = mounted.close();
+        met.overtaken = met.overtaken || is_overtaken(&left.book);
+        (left, met)
     }
 }
 
@@ -219,7 +221,7 @@ fn mounted(alloc: Global, dev: MemoryDevice) -> Result<Mounted, CaseError>
     requires { (disk_of dev).flights ≡ [] }
 {
     match opened(alloc, dev) {
-        Ok(kernel) => Ok(Mounted { alloc, kernel }),
+        Ok(kernel) => Ok(Mounted::new(alloc, kernel)),
         Err(back) => {
             drop(back);
             Err(CaseError::Line("it isn't mounted"))

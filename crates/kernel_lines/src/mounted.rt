@@ -3,12 +3,11 @@
 use crate::asking::ask;
 use crate::crowding::{crowd, wait_beside};
 use crate::stepping::{drain, print_acked, print_commits, print_ready, print_state, settle, step};
-use crate::submitting::submit;
 use crate::walking::walk;
 use block_device::MemoryDevice;
 use case_text::{CaseError, Text, Words};
 use mount_replay::unmount;
-use object_model::Book;
+use plain_reader::{Left, Told};
 use std::alloc::Global;
 use store_kernel::Kernel;
 
@@ -45,13 +44,29 @@ pub enum KernelCall {
 pub struct Mounted {
     pub alloc: Global,
     pub kernel: Kernel<MemoryDevice>,
+    /// The transactions that it accepted, by their places in the book.
+    pub told: Vec<Told>,
 }
 
 impl Mounted {
+    /// A store that was mounted just now.
+    pub fn new(alloc: Global, kernel: Kernel<MemoryDevice>) -> Mounted {
+        Mounted {
+            alloc,
+            kernel,
+            told: Vec::new(alloc),
+        }
+    }
+
     /// Unmounts it.
-    pub fn close(self) -> (MemoryDevice, Book) {
-        let Mounted { alloc, kernel } = self;
-        unmount(alloc, kernel)
+    pub fn close(self) -> Left {
+        let Mounted {
+            alloc,
+            kernel,
+            told,
+        } = self;
+        let (dev, book) = unmount(alloc, kernel);
+        Left { dev, book, told }
     }
 
     /// Follows a line that calls the kernel, from its second word on.
@@ -62,13 +77,13 @@ impl Mounted {
         out: &mut Text,
     ) -> Result<(), CaseError> {
         match call {
-            KernelCall::Submit => submit(self.alloc, &mut self.kernel, words, out),
+            KernelCall::Submit => self.submit(words, out),
             KernelCall::Ask => ask(self.alloc, &mut self.kernel, words, out),
             KernelCall::Step => step(self.alloc, &mut self.kernel, words, out),
             KernelCall::Drain => drain(self.alloc, &mut self.kernel, out),
             KernelCall::Settle => settle(self.alloc, &mut self.kernel, words),
-            KernelCall::Crowd => crowd(self.alloc, &mut self.kernel, words, out),
-            KernelCall::Waiting => wait_beside(self.alloc, &mut self.kernel, words, out),
+            KernelCall::Crowd => crowd(self, words, out),
+            KernelCall::Waiting => wait_beside(self, words, out),
             KernelCall::Commits => {
                 print_commits(&self.kernel, out);
                 Ok(())
@@ -89,7 +104,12 @@ impl Mounted {
 
 impl Drop for Mounted {
     fn drop(self) {
-        let Mounted { alloc, kernel } = self;
+        let Mounted {
+            alloc,
+            kernel,
+            told,
+        } = self;
+        drop(told);
         let (_device, _book) = unmount(alloc, kernel);
     }
 }

@@ -2,11 +2,12 @@
 ghost use Rattle.std.specs.Prelude.{◌↔◌, IsTrue, IfOk};
 ghost use Rattle.plan_drafts.specs.Prelude.{IsKnownOp, IsKnown};
 
+use crate::mounted::Mounted;
 use block_device::MemoryDevice;
 use case_text::{CaseError, Text, Words};
 use object_lines::transaction as transaction_of;
 use object_model::{Op, Transaction};
-use plain_reader::coll_of;
+use plain_reader::{Told, coll_of};
 use std::alloc::Global;
 use store_kernel::{Kernel, Refused};
 
@@ -28,7 +29,7 @@ fn are_known(ops: &[Op]) -> bool
 
 /// The transaction of these words: a collection, and operations in the words of the reference store's cases, with semicolons
 /// between them.
-pub fn transaction(alloc: Global, mut words: Words<'_>) -> Result<Transaction, CaseError>
+fn transaction(alloc: Global, mut words: Words<'_>) -> Result<Transaction, CaseError>
     ensures { IfOk result (λ t. IsKnown t.ops) }
 {
     let coll = coll_of(alloc, words.next()?.as_bytes())?;
@@ -62,7 +63,7 @@ pub fn print_refused(why: &Refused, out: &mut Text) {
 }
 
 /// Submits a transaction, as client 0 at line 1.
-pub fn submitted(
+fn submitted(
     alloc: Global,
     kernel: &mut Kernel<MemoryDevice>,
     txn: Transaction,
@@ -72,20 +73,33 @@ pub fn submitted(
     kernel.submit(alloc, 0, 1, txn)
 }
 
-/// Follows `submit COLL OPERATION; OPERATION ..`, from its second word on, and shows the transaction's place in the book.
-pub fn submit(
-    alloc: Global,
-    kernel: &mut Kernel<MemoryDevice>,
-    words: Words<'_>,
-    out: &mut Text,
-) -> Result<(), CaseError> {
-    let txn = transaction(alloc, words)?;
-    match submitted(alloc, kernel, txn) {
-        Ok(place) => out.println(format_args!("accepted {place}")),
-        Err(why) => {
-            print_refused(&why, out);
-            drop(why);
+impl Mounted {
+    /// Submits the transaction of these words. They are read twice, since the kernel keeps what it is given: where it is accepted, the
+    /// other reading is kept, with its place.
+    pub fn submit_words(&mut self, words: Words<'_>) -> Result<Result<u32, Refused>, CaseError> {
+        let change = transaction(self.alloc, words)?;
+        let txn = transaction(self.alloc, words)?;
+        match submitted(self.alloc, &mut self.kernel, txn) {
+            Ok(place) => {
+                self.told.push(Told { place, change })?;
+                Ok(Ok(place))
+            }
+            Err(why) => {
+                drop(change);
+                Ok(Err(why))
+            }
         }
     }
-    Ok(())
+
+    /// Follows `submit COLL OPERATION; OPERATION ..`, from its second word on, and shows the transaction's place in the book.
+    pub fn submit(&mut self, words: Words<'_>, out: &mut Text) -> Result<(), CaseError> {
+        match self.submit_words(words)? {
+            Ok(place) => out.println(format_args!("accepted {place}")),
+            Err(why) => {
+                print_refused(&why, out);
+                drop(why);
+            }
+        }
+        Ok(())
+    }
 }

@@ -1,5 +1,7 @@
 //! What a store knows of its superblock slots and of the active half of its log, from one event of the device to the next, and
 //! what a crash leaves of them.
+//!
+//! Proved: each event of the device keeps it; what a crash leaves of the log.
 #![tactic(auto)]
 
 mod laws;

@@ -66,6 +66,15 @@ IsRefused (NotExact unit) f = NoBadRow f.sup f.rows × IsLeastInexact (width_of 
 IsRefused (WornOut value) f = NoBadRow f.sup f.rows × IsExactAs (width_of f.sup) f.rows f.rows × IsWornOut f value
 IsRefused Fault f = ⊥
 
+-- why no store is found at all
+abbrev pub IsUnfound : MountFail → Type 0
+IsUnfound Memory = Unit {0}
+IsUnfound NoSuper = Unit {0}
+IsUnfound (BadRow key) = ⊥
+IsUnfound (NotExact unit) = ⊥
+IsUnfound (WornOut value) = ⊥
+IsUnfound Fault = Unit {0}
+
 -- Why a mount opens no store, by the contents.
 abbrev pub IsUnopenable : MountFail → List ℕ → Type 0
 IsUnopenable Memory contents = Unit {0}

@@ -1,4 +1,9 @@
 //! The operations of many records, gathered so that they are applied to the rows together.
+//!
+//! One record's bytes, a few pieces of the half and the operations that wait are in memory at a time, beside the rows: operations wait
+//! until they take 8 MiB or about that, and those of one record more. Of the units behind the records only the numbers of those that
+//! aren't zero are kept, until they are cleared. An invalid head with the right magic and number makes a mount gather what it claims, at
+//! most the half.
 ghost use Rattle.std.specs.Prelude.{◌≡◌, [], OnOk, IfOk};
 ghost use Rattle.std.specs.FinMap as map;
 ghost use Rattle.meta_rows.specs.Prelude.{row_after, rows_after};

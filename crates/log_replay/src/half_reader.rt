@@ -1,4 +1,8 @@
 //! A half of the log, read from its front in pieces as its records are asked for.
+//!
+//! A mount reads its half of the log in pieces of 64 units, and holds the record that it reads and a few pieces: what a record's head
+//! says of its length (`record_units`) is fetched before the record is judged, and no more is needed to judge it. Of the units behind the
+//! records it keeps which aren't zero, since these alone are cleared. `scan` reads all records of bytes in memory.
 ghost use Rattle.std.specs.Prelude.{◌≡◌, ◌≤◌, ◌<◌, ◌+◌, ◌*◌, ◌-◌, [], length, drop, OnOk, IfOk, IsErrOf, MatchOption};
 ghost use Rattle.block_device.specs.Prelude.{IsSound, Rose};
 ghost use Rattle.meta_log.specs.Prelude.{IsAtFront};

@@ -2,6 +2,13 @@
 //!
 //! In Ceph's BlueStore these are `mkfs`, and the part of `mount` that reads the superblock and replays the log. What is found is judged:
 //! its rows, its bitmap and its numbers. What is behind its records is cleared.
+//!
+//! Proved: from a quiet device with any contents `mkfs` leaves a quiet one that stands for no collections and whose slot has the asked
+//! numbers; it says TooSmall exactly where the device has fewer than 2H + 3 units, with both numbers, and leaves the device as it was; it
+//! says that the device failed only where the device's count rose, and then, by the log of a device that tells it, nothing was submitted
+//! after the call that failed; the device always comes back. `find_store` gives what the active slot and its log say; `judge` says
+//! whether a kernel can be opened on that, or why not; `clear_behind` leaves zeros behind the records, first over the unit behind the
+//! last one.
 #![tactic(auto)]
 
 mod calls;
@@ -18,6 +25,6 @@ mod zeroing;
 
 pub use clearing::clear_behind;
 pub use judging::judge;
-pub use making::{MkfsFail, mkfs};
+pub use making::{MkfsFail, mkfs, units_needed};
 pub use opening::{MountFail, failed};
 pub use replaying::{FoundStore, find_store};

@@ -28,6 +28,14 @@ pub enum MkfsFail {
     Fault,
 }
 
+/// The fewest units of a device for a store with halves of so many: the slots, the halves, and a data unit.
+pub fn units_needed(half: u32) -> u32
+    requires { half ≤ 65536 }
+    ensures { result ≡ units_needed half }
+{
+    2 * half + 3
+}
+
 /// Zeros in both slots and in half 0, stable.
 fn clear<D: Device>(alloc: Global, dev: &mut D, half: u32) -> Result<(), Failed>
     requires sound { IsSound (D.disk dev.old) }
@@ -110,7 +118,7 @@ pub fn mkfs<D: Device>(alloc: Global, dev: D, half: u32, prefer: u32) -> Result<
 {
     let mut dev = dev;
     let units = dev.units();
-    let need = 2 * half + 3;
+    let need = units_needed(half);
     if units < need {
         return Err((MkfsFail::TooSmall { units, need }, dev));
     }

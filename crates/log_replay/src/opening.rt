@@ -3,7 +3,7 @@ ghost use Rattle.std.specs.Prelude.{◌≡◌, ◌≤◌, ◌<◌, [], IfOk, IfS
 ghost use Rattle.block_device.specs.Prelude.{IsSound, Rose};
 ghost use Rattle.meta_log.specs.declared.slot.Super.{Super};
 ghost use Rattle.meta_log.specs.Prelude.{IsSuper, IsSlotOf, IsValidSlot, IsActiveSlot};
-ghost use Rattle.log_replay.specs.Opening.{IsAbout, HasNoSuper, newer_of};
+ghost use Rattle.log_replay.specs.Opening.{IsAbout, HasNoSuper, IsUnfound, newer_of};
 
 use block_device::{Device, Failed};
 use byte_maps::Bytes;
@@ -101,6 +101,7 @@ pub fn find_super<D: Device>(alloc: Global, dev: &mut D) -> Result<Option<Super>
 pub fn failed(failed: Failed) -> MountFail
     ensures memory { failed ≡ Failed.Memory → result ≡ MountFail.Memory }
     ensures fault { failed ≡ Failed.Fault → result ≡ MountFail.Fault }
+    ensures unfound { IsUnfound result }
 {
     match failed {
         Failed::Memory => MountFail::Memory,

@@ -2,7 +2,7 @@
 ghost use Rattle.std.specs.Prelude.{◌≡◌, ◌≤◌, ◌+◌, [], IfOk, IfErr, IsErrOf};
 ghost use Rattle.block_device.specs.Prelude.{IsSound, Rose};
 ghost use Rattle.meta_log.specs.declared.slot.Super.{Super};
-ghost use Rattle.log_replay.specs.Opening.{FailsMount};
+ghost use Rattle.log_replay.specs.Opening.{FailsMount, IsUnfound};
 ghost use Rattle.log_replay.specs.HalfReading.{IsNew, HasReplayed, IsHalfRead};
 ghost use Rattle.log_replay.specs.FoundOn.{IsFoundOn};
 
@@ -99,6 +99,7 @@ pub fn find_store<D: Device>(alloc: Global, dev: &mut D) -> Result<FoundStore, M
     ensures sound { IsSound (D.disk dev.old) }
     ensures found { IfOk result (IsFoundOn (D.disk dev.old)) }
     ensures fails { IfErr result (λ fail. FailsMount fail (D.disk dev.old) (D.faults dev.old) (D.faults dev.new)) }
+    ensures unfound { IfErr result IsUnfound }
     ensures faults { D.faults dev.old ≤ D.faults dev.new }
 {
     let found = match find_super(alloc, dev) {

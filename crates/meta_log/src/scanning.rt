@@ -1,4 +1,7 @@
 //! Records read back from a half of the log.
+//!
+//! A scan takes any bytes: a last part that isn't a whole unit has no record. A record is checked (number, checksum, zeros behind the
+//! body) before its operations are read, and memory is taken only for keys and values that are there.
 ghost use Rattle.std.specs.Prelude.{◌≡◌, ◌≢◌, ◌↔◌, ◌+◌, ◌-◌, ◌*◌, ◌++◌, ◌<◌, ◌≤◌, ◌^◌, ℕ, List, length, drop, IsTrue, All, IfOk, MatchOption};
 ghost use Rattle.std.specs.Int.{w32, to_le_bytes};
 ghost use Rattle.byte_maps.specs.Units.{units_for};

@@ -1,4 +1,10 @@
 //! Records of the log, made and cut into pieces.
+//!
+//! A sealed record keeps its operations, which become rows when it is committed, and its bytes; a piece is copied from these when it is
+//! asked for, since the device takes the bytes that are given to it.
+//!
+//! A piece that was asked for doesn't count as given until the device took it, so that a submission refused for want of memory leaves all
+//! as it was.
 ghost use Rattle.std.specs.Prelude.{◌≡◌, ℕ, ◌+◌, ◌-◌, ◌*◌, ◌/◌, ◌^◌, ◌<◌, ◌≤◌, ◌++◌, length, IfOk, OnOk};
 ghost use Rattle.byte_maps.specs.Units.{units_for, units_from, in_units};
 ghost use Rattle.crc32c_csum.specs.Prelude.{crc32c};

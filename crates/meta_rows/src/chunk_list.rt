@@ -1,4 +1,16 @@
 //! The chunks of the table, and spare ones.
+//!
+//! A chunk has its buffer of 128 rows from the first on, and is split into a spare one, so that no operation takes memory. An operation
+//! may split one chunk; but a part of a split one has at most 96 rows, and takes 32 more before it is full again. So what n operations
+//! need is n spare chunks, or, where there are few chunks, one for each, two, and one for each 32 operations: with s spare chunks and b
+//! rows beyond 96 in each, n + b stays at most 32 s, since an operation adds one to b, and a split takes 32 from both sides. `reserve`
+//! makes those, and the promised number is a field, so that a failed `reserve` leaves it. A later `reserve` sets the number anew; `apply`
+//! gives spare chunks back that it doesn't need, but for 32.
+//!
+//! A chunk is split where the key comes that makes it too full, or as near to there as parts of 32 to 96 rows allow: rows that come in
+//! the order of their keys in one place move at most 32 others from then on, and in several places by turns (collections that are written
+//! beside each other) soon have chunks of their own. No clause says so: which rows there are is all that one sees. A chunk that loses a
+//! row is joined with a neighbour where they have 64 rows together or fewer.
 ghost use Rattle.std.specs.Prelude.{◌≡◌, ◌+◌, ◌-◌, ◌<◌, ◌≤◌, ℕ, suc, List, [], length, take, get_or, T, false, OnOk, IsTrue, option_copied};
 ghost use Rattle.std.specs.FinMap as map;
 ghost use Rattle.std.specs.FinMap.{find};

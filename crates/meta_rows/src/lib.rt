@@ -1,6 +1,10 @@
 //! Rows of the metadata store, and the row operations that change them.
 //!
 //! In Ceph's BlueStore these are the sets, deletes and merges of a RocksDB write batch.
+//!
+//! Proved: `encode` is the spelling, `encoded_len` its length, `decode` gives operations exactly where bytes are one; `RowTable::apply`
+//! is what the operations make of the rows, by room made beforehand, and `apply_all` the same of any number of operations, with what
+//! memory that takes, or the table stays as it was; `range` lends the rows of a range of keys.
 #![tactic(auto)]
 
 mod chunk;

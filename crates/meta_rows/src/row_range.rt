@@ -1,4 +1,7 @@
 //! The rows of a range of keys.
+//!
+//! `RowTable::range` gives an iterator that is seen as the list of the range. A loop over it says that what is left are the rows of the
+//! range from a place on (`left_more`, `left_none` of `RangeLemmas`).
 ghost use Rattle.std.specs.Prelude.{◌≡◌, [], ◌++◌};
 ghost use Rattle.meta_rows.specs.Chunks.{joined, NoneEmpty};
 

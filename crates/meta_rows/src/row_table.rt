@@ -1,4 +1,16 @@
 //! The rows in memory, in the order of their keys.
+//!
+//! The rows of a `RowTable` lie in chunks of 1 to 128 rows, in one list of chunks: a row that comes or goes moves at most 127 rows and,
+//! where a chunk is split or goes, the chunks behind it, of which there is one for 64 rows or so. A look-up bisects the chunks by their
+//! first keys, then one chunk. `apply` goes through a batch one by one, and looks first into the chunk of the operation before.
+//! `apply_all`, for many operations at once, brings them into the order of their keys and, where they are an eighth of the rows or more,
+//! merges them with the rows, moved, into new chunks of 96. A mount calls it once for many records: their operations wait until they take
+//! 8 MiB of memory or about that, so that few merges go over the rows that are there, and what waits takes a bounded part of the memory.
+//! It brings them near to that order first, by a number of eight bytes of each key, since numbers are compared sooner than keys, which
+//! lie all over the memory. Operations on rows of the bitmap are applied by eights: they come to few rows, and their buffers are used
+//! again for the next ones.
+//!
+//! `RowTable::size` is kept modulo 2^64, and is the sum where that is below 2^64, which it asks for.
 ghost use Rattle.std.specs.Prelude.{◌≡◌, ◌↔◌, ◌+◌, ◌*◌, ◌^◌, ◌<◌, ◌≤◌, length, take, drop, T, IsTrue, IfOk, IfSome, OnOk, OnErr, option_copied};
 ghost use Rattle.std.specs.FinMap as map;
 ghost use Rattle.byte_maps.specs.ByteMap.{byte_order};

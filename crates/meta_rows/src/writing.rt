@@ -1,4 +1,7 @@
 //! Row operations as bytes.
+//!
+//! `encoded_len` says the length of an encoding where that is below 2^64, and of longer ones nothing, so that `encode` asks it without a
+//! premise how much memory to take.
 ghost use Rattle.std.specs.Prelude.{◌≡◌, ◌<◌, ◌^◌, ◌++◌, length, IfOk, OnOk};
 ghost use Rattle.meta_rows.specs.Spelling.{key_bytes, value_bytes, op_bytes, ops_bytes, IsKey, FitsRowOp, AllFit};
 

@@ -1,4 +1,7 @@
 //! The store: its rows, its room in the log, and the record that is being written.
+//!
+//! The room of the record's rows is made where the record is sealed and begun, in one step. (Ceph's batch is handed to the log at once
+//! too.)
 ghost use Rattle.std.specs.Prelude.{◌≡◌, ◌↔◌, ◌+◌, ◌-◌, ◌<◌, ◌≤◌, None, IsTrue, IfOk, IfErr, IfSome, OnOk, OnErr, OnSome, MatchOption};
 ghost use Rattle.meta_log.specs.Prelude.{IsSuper, active_unit, sealed_units};
 ghost use Rattle.meta_store.specs.Store.{IsMeta, found_meta, room_of, with_begun, with_given, with_written, after_flush};

@@ -1,15 +1,16 @@
 -- What mounting a store makes, and what unmounting it does.
-use Rattle.std.specs.Prelude.{◌≡◌, ℕ, ◌+◌, ◌*◌, List, [], length, drop, Some, All}
+use Rattle.std.specs.Prelude.{◌≡◌, ◌⊎◌, ℕ, ◌+◌, ◌*◌, ◌≤◌, List, [], length, drop, Some, All}
 use Rattle.block_device.specs.Prelude.{last, Disk, History}
 use Rattle.block_device.specs.declared.event.Event.{Event}
 use Rattle.meta_log.specs.Prelude.{active_half, active_unit}
 use Rattle.object_model.specs.Prelude.{Objects}
 use Rattle.store_image.specs.Prelude.{StandsFor, EachCutStands}
 use Rattle.unit_allocator.specs.Prelude.{Space}
+use Rattle.plan_rows.specs.Prelude.{IsGood}
 use Rattle.store_steps.specs.declared.step.Step.TheVariants.{Reap}
 use Rattle.store_steps.specs.Prelude.{State, Found, opened, Call, stepping, IsRun}
 use Rattle.run_facts.specs.Prelude.{IsOpenable}
-use Rattle.log_replay.specs.Prelude.{Told, GoesOn, GoesOnBy, IsLater, IsAllClean, AreClearing, IsAbout, IsFoundIn, HasLowNumbers, AreUnmarkedFree}
+use Rattle.log_replay.specs.Prelude.{Told, GoesOn, GoesOnBy, IsLater, IsAllClean, AreClearing, ClearsSoFar, IsAbout, IsFoundIn, HasLowNumbers, AreUnmarkedFree}
 
 -- the bytes of the active half behind the records
 abbrev pub behind_records : List ℕ → Found → List ℕ
@@ -35,6 +36,21 @@ pub record IsOpenedOn (given : Disk) (f : Found) (space : Space) (now : Disk) (s
   pub state : s ≡ opened f space events
   pub later : IsLater given now
   pub told : Told (WasOpened f events) given.history now.history
+
+-- A store that a kernel can be opened on was found. Zeros were written over units behind its records, the first of them first, and nothing else.
+pub record BeganToClear (given now : Disk) : Type 0 where
+  pub found : Found
+  pub good : IsGood found.sup found.rows
+  pub units : found.sup.units ≡ given.units
+  pub tail : found.tail ≤ found.sup.half
+  pub half : List ℕ
+  pub about : IsAbout given (λ contents. IsFoundIn contents found × (half ≡ active_half contents found.sup))
+  pub told : Told (ClearsSoFar (active_unit found.sup + found.tail) (active_unit found.sup + found.sup.half) (drop (4096 * found.tail) half))
+      given.history now.history
+
+-- what a mount that opened no store leaves of the device: as it was, or with some of those zeros
+abbrev pub LeftUnopened : Disk → Disk → Type 0
+LeftUnopened given now = (now ≡ given) ⊎ BeganToClear given now
 
 -- the device tells a later history, and each crash since then leaves these objects
 pub record StandsStill (h : History) (opening : Objects) (now : Disk) : Type 0 where

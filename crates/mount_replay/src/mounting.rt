@@ -5,7 +5,7 @@ ghost use Rattle.unit_allocator.specs.Prelude.{Space};
 ghost use Rattle.store_steps.specs.declared.step.Step.TheVariants.{Reap};
 ghost use Rattle.store_steps.specs.Prelude.{State, Found, is_ready, Calls, stepping};
 ghost use Rattle.log_replay.specs.Prelude.{Told, IsLater, FailsMount, SubmitsNothing, IsFoundOn, IsJudged, AreStaleOf, IsLogCleared, ClearsLog, as_found};
-ghost use Rattle.mount_replay.specs.Mounting.{IsOpenedOn, StaysDurable, IsReapedTo};
+ghost use Rattle.mount_replay.specs.Mounting.{IsOpenedOn, BeganToClear, LeftUnopened, StaysDurable, IsReapedTo};
 
 use block_device::{Device, Failed};
 use log_replay::{FoundStore, MountFail, clear_behind, failed, find_store, judge};
@@ -55,6 +55,7 @@ fn open_on<D: Device>(
     ensures ok { IfOk result (λ k. IsOpenedOn (D.disk dev) (as_found found) space (D.disk k.device) k.state) }
     ensures fails { IfErr result (λ e. FailsMount e.0 (D.disk dev) (D.faults dev) (D.faults e.1)) }
     ensures began { IfErr result (λ e. ¬ SubmitsNothing e.0) }
+    ensures writes { IfErr result (λ e. BeganToClear (D.disk dev) (D.disk e.1)) }
     ensures back { IfErr result (λ e. IsLater (D.disk dev) (D.disk e.1)) }
     ensures faults { MatchResult result (λ k. D.faults dev ≤ D.faults k.device) (λ e. D.faults dev ≤ D.faults e.1) }
     ensures durable { MatchResult result (λ k. StaysDurable (D.disk dev) (D.disk k.device)) (λ e. StaysDurable (D.disk dev) (D.disk e.1)) }
@@ -78,6 +79,7 @@ pub fn mount<D: Device>(alloc: Global, dev: D) -> Result<Kernel<D>, (MountFail, 
     ensures ok { IfOk result (λ k. (f : Found) × ((space : Space) × IsOpenedOn (D.disk dev) f space (D.disk k.device) k.state)) }
     ensures fails { IfErr result (λ e. FailsMount e.0 (D.disk dev) (D.faults dev) (D.faults e.1)) }
     ensures same { IfErr result (λ e. SubmitsNothing e.0 → D.disk e.1 ≡ D.disk dev) }
+    ensures writes { IfErr result (λ e. LeftUnopened (D.disk dev) (D.disk e.1)) }
     ensures back { IfErr result (λ e. IsLater (D.disk dev) (D.disk e.1)) }
     ensures later { MatchResult result (λ k. D.faults dev ≤ D.faults k.device) (λ e. D.faults dev ≤ D.faults e.1) }
     ensures durable { MatchResult result (λ k. StaysDurable (D.disk dev) (D.disk k.device)) (λ e. StaysDurable (D.disk dev) (D.disk e.1)) }

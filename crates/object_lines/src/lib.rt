@@ -1,4 +1,6 @@
 //! Cases of the reference store: operations on plain objects and reads of them, a line each.
+//!
+//! Proved: nothing but that it is total: it is safe and returns.
 #![tactic(auto)]
 
 mod answers;

@@ -3,7 +3,8 @@ ghost use Rattle.std.specs.Prelude.{◌≡◌, []};
 ghost use Rattle.object_model.specs.Objects.{Objects};
 ghost use Rattle.object_model.specs.Book.{IsLegal};
 
-use crate::command::{Answer, Command};
+use crate::asked::Asked;
+use crate::command::Answer;
 use byte_maps::Items;
 use std::alloc::Global;
 
@@ -14,7 +15,7 @@ pub struct Entry {
     pub client: u32,
     /// The line of the client's script that the command stands on.
     pub line: u32,
-    pub command: Command,
+    pub command: Asked,
     pub answer: Answer,
     /// How many commits were acknowledged when the entry was made.
     pub acks: u32,

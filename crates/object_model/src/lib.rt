@@ -1,7 +1,10 @@
 //! What the store promises its users: objects by name in collections by name, what a transaction does to them, what each command is
 //! answered, and the book of a run. The store of blocks and records is proved to answer as these definitions say.
+//!
+//! Proved: the limits of a whole transaction.
 #![tactic(auto)]
 
+mod asked;
 mod book;
 mod command;
 mod laws;
@@ -9,6 +12,7 @@ mod limits;
 mod op;
 mod transaction;
 
+pub use asked::{Asked, CommandKind};
 pub use book::{Book, Commit, Entry};
 pub use command::{Answer, Command};
 pub use laws::{

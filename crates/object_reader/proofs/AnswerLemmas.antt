@@ -27,11 +27,12 @@ use Rattle.read_facts.proofs.Keys.{none_of}
 use Rattle.read_facts.proofs.Found.{answer_given, object_missing, object_there}
 use Rattle.page_sources.specs.declared.parts.PartFail.{PartFail}
 use Rattle.page_sources.specs.declared.parts.PartFail.TheVariants as why
-use Rattle.page_sources.specs.Prelude.{CanRead, IsPartFail}
+use Rattle.page_sources.specs.Prelude.{CanRead, HasPageToRead, IsPartFail}
 use Rattle.object_reader.specs.Missing.{IsObjectMissing, HasObject}
 use Rattle.object_reader.specs.Readable.{IsReadable}
 use Rattle.object_reader.specs.Ranges.{GivesRange, GivesSum}
 use Rattle.object_reader.specs.PartFails.{IsCsumOf, IsSumOf}
+use Rattle.object_reader.specs.ToRead.{RangeNeedsDevice, ReadNeedsDevice}
 
 -- rows that can be read are a store's
 pub rows_of_a_store : (w : Width) (memory : ℕ → Option (List ℕ)) (rows : Rows) (d : Disk) → IsReadable w memory rows d → AreRowsOfAStore rows
@@ -131,6 +132,29 @@ module _ (w : Width) (memory : ℕ → Option (List ℕ)) (d : Disk) (rows : Row
       (none, (size, record { has_size = has; first_bad = fails w rows c o are_pages }))
   read_fails off len why.Memory a none fails is = absurd is
   read_fails off len why.Fault a none fails is = absurd is
+
+  -- a page of a range that the device has to be read for
+  needs_device : (off len : ℕ) → HasPageToRead memory pages (off / 4096) (pages_read size off len) → RangeNeedsDevice w memory rows c o size off len
+  needs_device off len one = record {
+    has_size = has;
+    index = one.index;
+    within = one.within;
+    on = record { unit = one.unit; csum = one.is_on.0 };
+    is_on = on_own w rows c o (off / 4096 + one.index) one.unit one.is_on.0
+        ((are_pages (off / 4096 + one.index) (own one.unit one.is_on.0)).0 one.is_on.1);
+    not_in_memory = one.not_in_memory;
+  }
+
+  -- the device fails only where there is one
+  pub read_needs : (off len : ℕ) (fail : PartFail) → IsNotRefused rows (ask.Read c o off len)
+      → IsPartFail memory d pages (off / 4096) (pages_read size off len) fail → fail ≡ why.Fault
+      → ReadNeedsDevice w memory rows (ask.Read c o off len)
+  read_needs off len fail none fails is =
+      (none, (size, needs_device off len (subst (IsPartFail memory d pages (off / 4096) (pages_read size off len)) is fails)))
+
+  pub sum_needs : (fail : PartFail) → IsNotRefused rows (ask.Sum c o) → IsPartFail memory d pages 0 (pages_read size 0 size) fail
+      → fail ≡ why.Fault → ReadNeedsDevice w memory rows (ask.Sum c o)
+  sum_needs fail none fails is = (none, (size, needs_device 0 size (subst (IsPartFail memory d pages 0 (pages_read size 0 size)) is fails)))
 
   -- the checksum of all bytes
   gives_sum : (crc : ℕ) → GivesSum memory d pages size crc → Gives w memory (IsHeldAt d) rows (ask.Sum c o) (answer.Sum size crc)

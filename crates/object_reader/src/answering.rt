@@ -16,6 +16,7 @@ ghost use Rattle.write_buffers.specs.Prelude.{memory_in};
 ghost use Rattle.object_reader.specs.Missing.{IsCollMissing, IsObjectMissing, HasObject};
 ghost use Rattle.object_reader.specs.Readable.{IsReadable};
 ghost use Rattle.object_reader.specs.PartFails.{IsCsumOf};
+ghost use Rattle.object_reader.specs.ToRead.{ReadNeedsDevice};
 
 use crate::fail::ReadFail;
 use crate::names::object_names;
@@ -47,6 +48,7 @@ pub fn answer<D: Device>(
     requires known { IsKnownRead command.now }
     ensures names { HasReadNames command.now }
     ensures ok { IfOk result (IsAnswerOf width (memory_in buffers.now) (IsHeldAt (D.disk device.old)) rows.now.rows command.now) }
+    ensures fault { IsErrOf result ReadFail.Fault → ReadNeedsDevice width (memory_in buffers.now) rows.now.rows command.now }
     ensures same { D.disk device.new ≡ D.disk device.old }
     ensures later { D.faults device.old ≤ D.faults device.new }
     ensures cause { IsErrOf result ReadFail.Fault → Rose (D.faults device.old) (D.faults device.new) }
@@ -172,6 +174,7 @@ fn answer_read<D: Device>(
     requires readable { IsReadable width (memory_in buffers.now) rows.now.rows (D.disk device.old) }
     ensures names { IsCollName coll.now × IsName object.now }
     ensures ok { IfOk result (IsAnswerOf width (memory_in buffers.now) (IsHeldAt (D.disk device.old)) rows.now.rows (ask.Read coll.now object.now off len)) }
+    ensures fault { IsErrOf result ReadFail.Fault → ReadNeedsDevice width (memory_in buffers.now) rows.now.rows (ask.Read coll.now object.now off len) }
     ensures same { D.disk device.new ≡ D.disk device.old }
     ensures later { D.faults device.old ≤ D.faults device.new }
     ensures cause { IsErrOf result ReadFail.Fault → Rose (D.faults device.old) (D.faults device.new) }
@@ -199,6 +202,7 @@ fn answer_sum<D: Device>(
     requires readable { IsReadable width (memory_in buffers.now) rows.now.rows (D.disk device.old) }
     ensures names { IsCollName coll.now × IsName object.now }
     ensures ok { IfOk result (IsAnswerOf width (memory_in buffers.now) (IsHeldAt (D.disk device.old)) rows.now.rows (ask.Sum coll.now object.now)) }
+    ensures fault { IsErrOf result ReadFail.Fault → ReadNeedsDevice width (memory_in buffers.now) rows.now.rows (ask.Sum coll.now object.now) }
     ensures same { D.disk device.new ≡ D.disk device.old }
     ensures later { D.faults device.old ≤ D.faults device.new }
     ensures cause { IsErrOf result ReadFail.Fault → Rose (D.faults device.old) (D.faults device.new) }

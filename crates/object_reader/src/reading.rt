@@ -1,4 +1,9 @@
 //! Bytes of an object, and their checksum.
+//!
+//! Pages are read in runs of up to 64: pages on consecutive units by one read of the device, holes by none. Each page's checksum is
+//! compared before its bytes are used; the bad unit that is answered is that of the first bad page of the range, since runs come in the
+//! order of the pages. The first run is read straight into the answer. A sum takes a whole page in by its checksum, which was just
+//! compared, so that no byte is summed twice.
 ghost use Rattle.std.specs.Prelude.{◌≡◌, ◌+◌, ◌-◌, ◌*◌, ◌/◌, ◌≤◌, ◌<◌, IfOk, IfErr, IsErrOf, length, take, drop};
 ghost use Rattle.block_device.specs.Prelude.{Rose};
 ghost use Rattle.crc32c_csum.specs.Prelude.{remainder};

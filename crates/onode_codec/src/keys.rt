@@ -1,4 +1,7 @@
 //! Keys of rows, each made in memory of its own.
+//!
+//! A row's key is made on the stack, where the longest one has room, and copied into a byte string, which takes memory for long keys
+//! alone.
 ghost use Rattle.std.specs.Prelude.{◌≡◌, ◌+◌, ◌<◌, ◌≤◌, [], ◌∷◌, ◌++◌, length, IfOk, IfSome};
 ghost use Rattle.arrayvec.specs.ArrayVec.{array_vec_len};
 ghost use Rattle.std.specs.Int.{w64, to_be_bytes};

@@ -1,6 +1,8 @@
 //! Keys and values of metadata rows in memory: the keys of all rows, an object's onode, and its extents.
 //!
 //! In Ceph's BlueStore these are `get_object_key` and its kin, `bluestore_onode_t`, and the blobs and extents of a shard.
+//!
+//! Proved: a key is the spelled one; `decode` is None exactly where the bytes are no spelling.
 #![tactic(auto)]
 
 mod csum;

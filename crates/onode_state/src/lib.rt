@@ -2,6 +2,8 @@
 //!
 //! In Ceph's BlueStore this is `get_onode` with `ExtentMap::fault_range`: an onode and its extent map, decoded from their keys. Whoever plans
 //! a change of an object or reads it begins here: a change has the whole map, a read looks up the pages that it wants.
+//!
+//! Proved: `object_state` gives its size, its page map and its shards; `object_pages` finds its pages one by one, and no others.
 #![tactic(auto)]
 
 mod names;

@@ -2,6 +2,9 @@
 //!
 //! In Ceph's BlueStore this is `ExtentMap::find` with `seek_lextent`, over shards that were decoded. Here nothing is decoded before it is
 //! needed: an extent in front of the page is skipped by the number of its pages.
+//!
+//! Proved: `find` gives the page's place among the extents that the bytes spell; of extents that ascend it is the one that the map of all
+//! pages has.
 #![tactic(auto)]
 
 mod laws;

@@ -201,10 +201,11 @@ bad_unit memory d pages first at count bytes sums bad kept out read m w rows c o
 -- so a failed read of units is one of the pages that stand on them
 pub units_fail : (memory : ℕ → Option (List ℕ)) (d : Disk) (pages : List Extent) (first at count : ℕ) (sums : List ℕ) (fail : PartFail)
     → AreKept pages first at count sums
-    → AreNotIn memory at count → IsUnitsFail d at count sums fail → IsPartFail memory d pages first count fail
-units_fail memory d pages first at count sums (why.BadPage bad) kept out is = bad_unit memory d pages first at count is.0 sums bad kept out is.1 is.2
-units_fail memory d pages first at count sums why.Memory kept out is = tt
-units_fail memory d pages first at count sums why.Fault kept out is = tt
+    → AreNotIn memory at count → 0 < count → IsUnitsFail d at count sums fail → IsPartFail memory d pages first count fail
+units_fail memory d pages first at count sums (why.BadPage bad) kept out some is = bad_unit memory d pages first at count is.0 sums bad kept out is.1 is.2
+units_fail memory d pages first at count sums why.Memory kept out some is = tt
+units_fail memory d pages first at count sums why.Fault kept out some is =
+    record { index = 0; within = some; unit = at + 0; is_on = (get_or sums 0 0, kept 0 some); not_in_memory = out 0 some }
 
 -- a page whose unit is in memory is good, with the bytes there
 pub good_copy : (memory : ℕ → Option (List ℕ)) (d : Disk) (pages : List Extent) (first unit : ℕ) (bytes : List ℕ) → CanRead memory d pages
@@ -269,7 +270,8 @@ pub fails_of_more : (memory : ℕ → Option (List ℕ)) (d : Disk) (pages : Lis
 fails_of_more memory d pages first count n (why.BadPage bad) le is =
     λ w rows c o map. bad_of_more w memory d rows c o first count n bad.unit bad.kept bad.found le (is w rows c o map)
 fails_of_more memory d pages first count n why.Memory le is = tt
-fails_of_more memory d pages first count n why.Fault le is = tt
+fails_of_more memory d pages first count n why.Fault le is =
+    record { index = is.index; within = omega (arith, is.within, le); unit = is.unit; is_on = is.is_on; not_in_memory = is.not_in_memory }
 
 -- a failed read behind good pages
 pub fails_behind : (memory : ℕ → Option (List ℕ)) (d : Disk) (pages : List Extent) (first next end : ℕ) (xs : List ℕ) (fail : PartFail)
@@ -283,7 +285,15 @@ fails_behind memory d pages first next end xs (why.BadPage bad) from below front
     (subst (λ (p : ℕ). IsFirstBad w memory (IsHeldAt d) rows c o p (end - next) bad.unit bad.kept bad.found) same (is w rows c o map))
     (omega (arith, from, below))
 fails_behind memory d pages first next end xs why.Memory from below front is = tt
-fails_behind memory d pages first next end xs why.Fault from below front is = tt
+fails_behind memory d pages first next end xs why.Fault from below front is =
+    let same : next + is.index ≡ first + ((next - first) + is.index) = omega (arith, from) in
+    record {
+      index = (next - first) + is.index;
+      within = omega (arith, is.within, from, below);
+      unit = is.unit;
+      is_on = subst (λ (p : ℕ). IsOnUnit pages p is.unit) same is.is_on;
+      not_in_memory = is.not_in_memory;
+    }
 
 -- ---- runs laid together
 

@@ -1,12 +1,17 @@
 -- Old bytes of places, read one by one.
-use Rattle.std.proofs.Common.{◌≡◌, ℕ, zero, suc, ◌+◌, ◌<◌, List, [], ◌∷◌, ◌++◌, length, take, get_or, Option, None, refl, sym, ap, ap₂, subst, ◌∙◌, arith}
+use Rattle.std.proofs.Common.{◌≡◌, ℕ, zero, suc, ◌+◌, ◌<◌, List, [], ◌∷◌, ◌++◌, length, map, take, get_or, Option, None, refl, sym, ap, ap₂, subst, ◌∙◌, arith}
 use Rattle.std.specs.Prelude.{MatchOption}
+use Rattle.std.proofs.lemmas.List.{map-append, take_more}
+use Rattle.std.proofs.lemmas.List.Concat.{flat_map-append}
+use Rattle.meta_rows.proofs.ChunkLemmas.{all_both}
 use Rattle.byte_maps.specs.Units.{unit_at}
 use Rattle.byte_maps.proofs.Prelude.{length-unit_at, unit_at-whole}
 use Rattle.crc32c_csum.specs.Prelude.{crc32c}
 use Rattle.block_device.specs.Prelude.{Disk, HasRead}
 use Rattle.row_format.specs.Prelude.{Place, own}
-use Rattle.read_facts.specs.Prelude.{IsHeldAt, IsRead}
+use Rattle.read_facts.specs.Prelude.{IsHeldAt, IsRead, AreGoodPlaces}
+use Rattle.read_facts.proofs.Places.{good_append}
+use Rattle.plan_rows.specs.Prelude.{own_units}
 use Rattle.plan_rows.specs.declared.plan.ReadUnit.{ReadUnit}
 use Rattle.page_sources.specs.declared.parts.PartFail.{PartFail}
 use Rattle.page_sources.specs.declared.parts.PartFail.TheVariants as why
@@ -34,8 +39,7 @@ unit_given memory d place unit csum at bytes sums is there away kept read are =
     subst (λ (copy : Option (List ℕ)). MatchOption copy (IsHeldAt d unit bytes × (crc32c bytes ≡ csum)) (λ b. bytes ≡ b)) (sym out) (holds, sum) in
     subst (λ (p : Place). GivesPlaces memory d (p ∷ []) (record { unit = unit; bytes = bytes } ∷ [])) is (record {
       units = record { units = refl; whole = (long, tt) };
-      found = (subst (λ (copy : Option (List ℕ)). MatchOption copy (IsHeldAt d unit bytes) (λ b. bytes ≡ b)) (sym out) holds, tt);
-      good = ((bytes, gives), tt);
+      good = (gives, tt);
     })
 
 -- a unit that isn't in memory failed to be read, or has another checksum
@@ -53,6 +57,7 @@ unit_fails memory d place unit csum at sums (why.BadPage bad) is there away kept
       front = [];
       rest = [];
       is = ap (λ (p : Place). p ∷ []) (sym is ∙ sym (ap₂ own (from ∙ there) same));
+      before = [];
       good = tt;
       bad = record {
         not_in_memory = ap memory from ∙ away;
@@ -64,7 +69,29 @@ unit_fails memory d place unit csum at sums (why.BadPage bad) is there away kept
       };
     }
 unit_fails memory d place unit csum at sums why.Memory is there away kept fails = tt
-unit_fails memory d place unit csum at sums why.Fault is there away kept fails = tt
+unit_fails memory d place unit csum at sums why.Fault is there away kept fails = record {
+  front = [];
+  unit = unit;
+  csum = csum;
+  rest = [];
+  is = ap (λ (p : Place). p ∷ []) (sym is);
+  not_in_memory = ap memory (sym there) ∙ away;
+}
+
+-- what was read of one place more goes behind what was read before
+pub one_place_more : (memory : ℕ → Option (List ℕ)) (d : Disk) (places : List Place) (i : ℕ) (place : Place) (read more : List ReadUnit) (r : ReadUnit)
+    → i < length places → place ≡ get_or places i place → more ≡ read ++ r ∷ [] → GivesPlaces memory d (take i places) read
+    → GivesPlaces memory d (place ∷ []) (r ∷ []) → GivesPlaces memory d (take (i + 1) places) more
+one_place_more memory d places i place read more r lt is grown front one =
+    let reached : take (i + 1) places ≡ take i places ++ place ∷ [] = take_more places i place lt ∙ ap (λ p. take i places ++ p ∷ []) (sym is) in
+    subst (λ ps. GivesPlaces memory d ps more) (sym reached) (subst (GivesPlaces memory d (take i places ++ place ∷ [])) (sym grown) (record {
+      units = record {
+        units = map-append (λ q. q.unit) read (r ∷ []) ∙ ap₂ (λ (a b : List ℕ). a ++ b) front.units.units one.units.units ∙ sym (flat_map-append own_units (take i places) (place ∷ []));
+        whole = all_both (λ q. length q.bytes ≡ 4096) read (r ∷ []) front.units.whole one.units.whole;
+      };
+      good = subst (AreGoodPlaces memory (IsHeldAt d) (take i places ++ place ∷ [])) (sym (map-append (λ q. q.bytes) read (r ∷ [])))
+          (good_append memory (IsHeldAt d) (take i places) (place ∷ []) (map (λ q. q.bytes) read) (r.bytes ∷ []) front.good one.good);
+    }))
 
 -- what stands from a place on, behind those in front of it
 from_place : (places : List Place) (i : ℕ) (place : Place) → i < length places → place ≡ get_or places i place
@@ -75,24 +102,36 @@ from_place (p ∷ places) (suc i) place lt is =
     let more = from_place places i place (omega (arith, lt)) is in
     (more.0, ap (λ (qs : List Place). p ∷ qs) more.1)
 
+-- the one place of a list
+only_place : (place one : Place) (xs ys : List Place) → place ∷ [] ≡ xs ++ one ∷ ys → place ≡ one
+only_place place one [] ys same = cc
+only_place place one (x ∷ []) ys same = absurd cc
+only_place place one (x ∷ z ∷ xs) ys same = absurd cc
+
 -- a place that fails behind others that were read
 pub fails_behind_places : (memory : ℕ → Option (List ℕ)) (d : Disk) (places : List Place) (i : ℕ) (place : Place) (read : List ReadUnit)
     (fail : PartFail) → i < length places → place ≡ get_or places i place → GivesPlaces memory d (take i places) read
     → IsPlacesFail memory d (place ∷ []) fail → IsPlacesFail memory d places fail
 fails_behind_places memory d places i place read (why.BadPage bad) lt is front fails =
     let rest = from_place places i place lt is in
-    let one = first_of fails.front fails.rest fails.is in
+    let one = only_place place (own bad.unit bad.kept) fails.front fails.rest fails.is in
     record {
       front = take i places;
       rest = rest.0;
       is = rest.1 ∙ ap (λ (p : Place). take i places ++ p ∷ rest.0) one;
+      before = map (λ r. r.bytes) read;
       good = front.good;
       bad = fails.bad;
     }
-  where
-    first_of : (xs ys : List Place) → place ∷ [] ≡ xs ++ own bad.unit bad.kept ∷ ys → place ≡ own bad.unit bad.kept
-    first_of [] ys same = cc
-    first_of (x ∷ []) ys same = absurd cc
-    first_of (x ∷ z ∷ xs) ys same = absurd cc
 fails_behind_places memory d places i place read why.Memory lt is front fails = tt
-fails_behind_places memory d places i place read why.Fault lt is front fails = tt
+fails_behind_places memory d places i place read why.Fault lt is front fails =
+    let rest = from_place places i place lt is in
+    let one = only_place place (own fails.unit fails.csum) fails.front fails.rest fails.is in
+    record {
+      front = take i places;
+      unit = fails.unit;
+      csum = fails.csum;
+      rest = rest.0;
+      is = rest.1 ∙ ap (λ (p : Place). take i places ++ p ∷ rest.0) one;
+      not_in_memory = fails.not_in_memory;
+    }

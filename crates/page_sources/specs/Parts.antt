@@ -91,10 +91,19 @@ GivesBad memory d pages first count bad =
     (w : Width) (rows : Rows) (c o : List ℕ) → FindPagesOf w rows c o pages
     → IsFirstBad w memory (IsHeldAt d) rows c o first count bad.unit bad.kept bad.found
 
--- what a failed read of so many pages says of them
+-- one of so many pages from the first on stands on a unit that isn't in memory: the device has to be read for it
+pub record HasPageToRead (memory : ℕ → Option (List ℕ)) (pages : List Extent) (first count : ℕ) : Type 0 where
+  pub index : ℕ
+  pub within : index < count
+  pub unit : ℕ
+  pub is_on : IsOnUnit pages (first + index) unit
+  pub not_in_memory : memory unit ≡ None
+
+-- what a failed read of so many pages says of them: the device fails only where it is read
 abbrev pub IsPartFail : (ℕ → Option (List ℕ)) → Disk → List Extent → ℕ → ℕ → PartFail → Type 0
 IsPartFail memory d pages first count (why.BadPage bad) = GivesBad memory d pages first count bad
-IsPartFail memory d pages first count fail = Unit {0}
+IsPartFail memory d pages first count why.Fault = HasPageToRead memory pages first count
+IsPartFail memory d pages first count why.Memory = Unit {0}
 
 -- what a failed read of so many units says of them
 abbrev pub IsUnitsFail : Disk → ℕ → ℕ → List ℕ → PartFail → Type 0

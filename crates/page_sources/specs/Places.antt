@@ -1,9 +1,9 @@
 -- Old bytes, by the places of the pages that they are in: which can be read, and what reads of them give.
-use Rattle.std.specs.Prelude.{◌≡◌, ℕ, ◌<◌, ◌≤◌, List, length, Option, Some, None}
+use Rattle.std.specs.Prelude.{◌≡◌, ℕ, ◌<◌, ◌≤◌, List, ◌∷◌, ◌++◌, length, map, Option, Some, None}
 use Rattle.std.specs.List.{AllByRecursion}
 use Rattle.block_device.specs.Prelude.{Disk, IsUntouched}
 use Rattle.row_format.specs.Prelude.{Place, own}
-use Rattle.read_facts.specs.Prelude.{IsHeldAt, IsFound, IsGoodPlace, IsFirstBadUnit}
+use Rattle.read_facts.specs.Prelude.{IsHeldAt, AreGoodPlaces, IsFirstBadUnit}
 use Rattle.plan_rows.specs.declared.plan.ReadUnit.{ReadUnit}
 use Rattle.plan_rows.specs.Prelude.{AreReadAt}
 use Rattle.page_sources.specs.declared.parts.PartFail.{PartFail}
@@ -19,13 +19,22 @@ pub record CanReadPlaces (memory : ℕ → Option (List ℕ)) (d : Disk) (places
   pub each : AllByRecursion (CanReadPlace memory d) places
   pub whole : (unit : ℕ) (bytes : List ℕ) → memory unit ≡ Some bytes → length bytes ≡ 4096
 
--- What was read of places: the bytes of their units, each as memory or the device has them, and none is bad.
+-- What was read of places: their units, in order, and for each the bytes that it gives; so none of them is bad.
 pub record GivesPlaces (memory : ℕ → Option (List ℕ)) (d : Disk) (places : List Place) (read : List ReadUnit) : Type 0 where
   pub units : AreReadAt places read
-  pub found : AllByRecursion (λ r. IsFound memory (IsHeldAt d) r.unit r.bytes) read
-  pub good : AllByRecursion (IsGoodPlace memory (IsHeldAt d)) places
+  pub good : AreGoodPlaces memory (IsHeldAt d) places (map (λ r. r.bytes) read)
 
--- what a failed read of places says of them
+-- the unit of one of these places isn't in memory: the device has to be read for it
+pub record HasPlaceToRead (memory : ℕ → Option (List ℕ)) (places : List Place) : Type 0 where
+  pub front : List Place
+  pub unit : ℕ
+  pub csum : ℕ
+  pub rest : List Place
+  pub is : places ≡ front ++ own unit csum ∷ rest
+  pub not_in_memory : memory unit ≡ None
+
+-- what a failed read of places says of them: the device fails only where it is read
 abbrev pub IsPlacesFail : (ℕ → Option (List ℕ)) → Disk → List Place → PartFail → Type 0
 IsPlacesFail memory d places (why.BadPage bad) = IsFirstBadUnit memory (IsHeldAt d) places bad.unit bad.kept bad.found
-IsPlacesFail memory d places fail = Unit {0}
+IsPlacesFail memory d places why.Fault = HasPlaceToRead memory places
+IsPlacesFail memory d places why.Memory = Unit {0}

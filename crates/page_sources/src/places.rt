@@ -1,8 +1,7 @@
 //! Old bytes, by the places of the pages that they are in.
-ghost use Rattle.std.specs.Prelude.{◌≡◌, ◌≤◌, ◌∷◌, [], IfOk, IfErr, OnOk, IsErrOf};
-ghost use Rattle.std.specs.List.{AllByRecursion};
+ghost use Rattle.std.specs.Prelude.{◌≡◌, ◌≤◌, ◌∷◌, [], map, IfOk, IfErr, IsErrOf};
 ghost use Rattle.block_device.specs.Prelude.{Rose};
-ghost use Rattle.read_facts.specs.Prelude.{IsHeldAt, IsFound, IsGoodPlace};
+ghost use Rattle.read_facts.specs.Prelude.{IsHeldAt, AreGoodPlaces};
 ghost use Rattle.plan_rows.specs.Prelude.{AreReadAt};
 ghost use Rattle.write_buffers.specs.Prelude.{memory_in};
 ghost use Rattle.page_sources.specs.Places.{CanReadPlaces, GivesPlaces, IsPlacesFail};
@@ -60,8 +59,7 @@ pub fn read_places<D: Device>(
 ) -> Result<Items<ReadUnit>, PartFail>
     requires can { CanReadPlaces (memory_in buffers.now) (D.disk device.old) places.now }
     ensures units { IfOk result (AreReadAt places.now) }
-    ensures found { IfOk result (AllByRecursion (λ r. IsFound (memory_in buffers.now) (IsHeldAt (D.disk device.old)) r.unit r.bytes)) }
-    ensures good { OnOk result (AllByRecursion (IsGoodPlace (memory_in buffers.now) (IsHeldAt (D.disk device.old))) places.now) }
+    ensures good { IfOk result (λ read. AreGoodPlaces (memory_in buffers.now) (IsHeldAt (D.disk device.old)) places.now (map (λ r. r.bytes) read)) }
     ensures bad { IfErr result (IsPlacesFail (memory_in buffers.now) (D.disk device.old) places.now) }
     ensures same { D.disk device.new ≡ D.disk device.old }
     ensures later { D.faults device.old ≤ D.faults device.new }

@@ -2,7 +2,7 @@
 //! leaked before the run.
 
 use crate::counts::Counts;
-use crate::history::{Past, acknowledged, apply_commit, objects_behind};
+use crate::history::{Past, Told, acknowledged, apply_commit, objects_behind};
 use crate::image::Found;
 use crate::left::{Left, image_at};
 use crate::spelling::{spelled, spelled_plain};
@@ -77,24 +77,26 @@ impl Judge {
         let mut judge = Judge::of(alloc);
         judge.earlier = earlier;
         let start = image_at(alloc, &left.dev, 0, Tear::Old);
-        match judge.follow(COLL_COUNT, &start, history, &left.book) {
+        match judge.follow(COLL_COUNT, &start, history, &left.book, &left.told) {
             Ok(()) => Ok(judge),
             Err(wrong) => Err(wrong),
         }
     }
 
-    /// Follows a run that began with this image of a store that has earlier runs behind it. So many collections are looked at.
+    /// Follows a run that began with this image of a store that has earlier runs behind it, and accepted these transactions. So many
+    /// collections are looked at.
     pub fn follow(
         &mut self,
         colls: u32,
         start: &[u8],
         history: &[Past],
         book: &Book,
+        told: &[Told],
     ) -> Result<(), CaseError> {
         self.look_at_all(colls);
         self.begin(start)?;
         match objects_behind(self.alloc, history) {
-            Ok(mut plain) => self.push_states(&mut plain, book),
+            Ok(mut plain) => self.push_states(&mut plain, book, told),
             Err(wrong) => Err(wrong),
         }
     }
@@ -109,11 +111,16 @@ impl Judge {
     }
 
     /// Keeps what objects are after each number of commits.
-    fn push_states(&mut self, plain: &mut Plain, book: &Book) -> Result<(), CaseError> {
+    fn push_states(
+        &mut self,
+        plain: &mut Plain,
+        book: &Book,
+        told: &[Told],
+    ) -> Result<(), CaseError> {
         self.states.clear();
         self.push_state(plain)?;
         for at in 0..book.commits.len() {
-            apply_commit(self.alloc, plain, book, at)?;
+            apply_commit(self.alloc, plain, book, told, at)?;
             self.push_state(plain)?;
         }
         Ok(())

@@ -1,5 +1,6 @@
 //! What mounts leave: a device and the book of what was done; and what the plain reader finds in images of the device.
 
+use crate::history::Told;
 use crate::image::Found;
 use crate::object::Object;
 use crate::spelling::NAMES;
@@ -19,6 +20,8 @@ pub const COLLS: [&str; 4] = ["1.0_head", "2.0_head", "3.0_head", "4.0_head"];
 pub struct Left {
     pub dev: MemoryDevice,
     pub book: Book,
+    /// The transactions that it accepted, by their places in the book.
+    pub told: Vec<Told>,
 }
 
 impl Left {

@@ -1,5 +1,7 @@
 //! A plain reader of images of a device, slow and simple and apart from the code by which the store reads and writes: it says which
 //! objects it finds, and whether they are those after a front of the commits of a run. What programs of cases judge is judged by it.
+//!
+//! Proved: nothing but that it is total: it is safe and returns.
 #![tactic(auto)]
 
 mod bitmap;
@@ -17,7 +19,7 @@ mod tears;
 mod values;
 
 pub use counts::Counts;
-pub use history::{Past, acknowledged, apply, objects_behind};
+pub use history::{Past, Told, acknowledged, apply, objects_behind};
 pub use image::Found;
 pub use judge::{Judge, Judgement, leaked_in};
 pub use left::{COLLS, Left, cut_of, found_text, image_at};

@@ -1,4 +1,8 @@
 //! What an accepted transaction makes of rows: its plan, and all that is known of one above the crate that proves it.
+//!
+//! Proved: operations on rows of some collections leave the rows of others and change places with operations on those, and turn exactly
+//! the bits of the units that are taken and released; what is known of a plan over rows is known over all that agree with them on its
+//! collections.
 #![tactic(auto)]
 
 mod laws;

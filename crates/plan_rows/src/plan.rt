@@ -9,7 +9,7 @@ use unit_fields::UnitNo;
 #[derive(Drop)]
 pub struct FreshUnit {
     pub unit: UnitNo,
-    /// 4096 bytes, shared with the transaction in the book.
+    /// 4096 bytes, a part of what the transaction's operation has, which it shares: they keep that in memory until its commit.
     pub bytes: Bytes,
 }
 

@@ -1,11 +1,10 @@
 -- Pages of an object, read from memory or from the device: which bytes of units are in memory, and what bytes a unit holds else, are arguments.
-use Rattle.std.specs.Prelude.{◌≡◌, ◌≢◌, ℕ, ◌+◌, ◌-◌, ◌/◌, ◌%◌, ◌<◌, min, nat_lt, List, ◌∷◌, ◌++◌, length, take, drop, Option, None, IfSome, MatchOption, if◌then◌else◌}
+use Rattle.std.specs.Prelude.{◌≡◌, ◌≢◌, ℕ, ◌+◌, ◌-◌, ◌/◌, ◌%◌, ◌<◌, min, nat_lt, List, [], ◌∷◌, ◌++◌, length, take, drop, Option, None, IfSome, MatchOption, if◌then◌else◌}
 use Rattle.byte_maps.specs.Units.{unit_at, zeros, IsUnits}
 use Rattle.unit_fields.specs.declared.width.Width.{Width}
 use Rattle.crc32c_csum.specs.Prelude.{crc32c}
 use Rattle.block_device.specs.Prelude.{HasNoBadDone, Disk, last_at}
 use Rattle.meta_rows.specs.Prelude.{Rows}
-use Rattle.std.specs.List.{AllByRecursion}
 use Rattle.row_format.specs.Prelude.{Place, own}
 use Rattle.store_image.specs.Prelude.{HasOnode, PageUnit, IsPageOn, IsHole, pages_of}
 
@@ -59,9 +58,15 @@ pub record IsFirstBad (w : Width) (memory : ℕ → Option (List ℕ)) (held : �
 
 -- ---- units by their places
 
--- the place gives bytes, with their checksum where its unit isn't in memory
-abbrev pub IsGoodPlace : (ℕ → Option (List ℕ)) → (ℕ → List ℕ → Type 0) → Place → Type 0
-IsGoodPlace memory held (own unit csum) = (bytes : List ℕ) × IsRead memory held (record { unit = unit; csum = csum }) bytes
+-- the place is good: its unit gives these bytes, with the checksum that is kept for them where it isn't in memory
+abbrev pub IsGoodPlace : (ℕ → Option (List ℕ)) → (ℕ → List ℕ → Type 0) → Place → List ℕ → Type 0
+IsGoodPlace memory held (own unit csum) bytes = IsRead memory held (record { unit = unit; csum = csum }) bytes
+
+-- these places are good, and these are their bytes, in order: one list for each
+abbrev pub AreGoodPlaces : (ℕ → Option (List ℕ)) → (ℕ → List ℕ → Type 0) → List Place → List (List ℕ) → Type 0
+AreGoodPlaces memory held [] [] = Unit {0}
+AreGoodPlaces memory held (place ∷ places) (bytes ∷ read) = IsGoodPlace memory held place bytes × AreGoodPlaces memory held places read
+AreGoodPlaces memory held places read = ⊥
 
 -- A unit is bad, as a page on it: it isn't in memory and holds bytes whose checksum isn't the one that is kept.
 pub record IsBadUnit (memory : ℕ → Option (List ℕ)) (held : ℕ → List ℕ → Type 0) (unit kept found : ℕ) : Type 0 where
@@ -77,7 +82,8 @@ pub record IsFirstBadUnit (memory : ℕ → Option (List ℕ)) (held : ℕ → L
   pub front : List Place
   pub rest : List Place
   pub is : places ≡ front ++ own unit kept ∷ rest
-  pub good : AllByRecursion (IsGoodPlace memory held) front
+  pub before : List (List ℕ)
+  pub good : AreGoodPlaces memory held front before
   pub bad : IsBadUnit memory held unit kept found
 
 -- ---- ranges of bytes

@@ -1,5 +1,8 @@
 //! What reads answer: pages of objects as the device holds them, names in byte order, and what the answers have to do with those of
 //! plain objects.
+//!
+//! Proved: a read is answered as plain objects answer: exactly where the device tells what it holds and that stands for them, else but
+//! for the bytes; a walk shows just these objects.
 #![tactic(auto)]
 
 mod laws;

@@ -1,4 +1,9 @@
 //! The difference that logged changes make to rows.
+//!
+//! A value that an operation names is put among the changes without a look at the rows: the difference looks each up once, among the
+//! first two rows from the place of the one before it on, since an object's changes lie side by side, and else by bisecting the table.
+//! Where all of a kind go, or a range of keys, the rows of that range are gone through, and the changes in it, and no others. Changes are
+//! kept in the order in which they came, and sorted once.
 ghost use Rattle.std.specs.Prelude.{◌≡◌, ◌++◌, List, ℕ, Option, None, T, option_copied, IfOk, IfSome, OnOk};
 ghost use Rattle.std.specs.FinMap as map;
 ghost use Rattle.std.specs.FinMap.{find};

@@ -1,6 +1,6 @@
--- What the row before tells of the one that is looked at.
-use Rattle.std.proofs.Common.{◌≡◌, ℕ, ◌≤◌, List, Option, Some, None, refl, sym, ap, subst, ◌∙◌, ◌↔◌}
-use Rattle.std.specs.Prelude.{IsSome}
+-- What the last row that was passed tells of the one that is looked at.
+use Rattle.std.proofs.Common.{◌≡◌, ℕ, ◌≤◌, List, [], Option, Some, None, MatchOption, refl, sym, ap, subst, ◌∙◌, ◌↔◌}
+use Rattle.std.specs.Prelude.{IsSome, IfSome}
 use Rattle.std.specs.List.{AllByRecursion}
 use Rattle.std.specs.FinMap as map
 use Rattle.std.specs.Int.{w64, to_le_bytes}
@@ -8,59 +8,61 @@ use Rattle.unit_fields.specs.Prelude.{IsName, IsCollName}
 use Rattle.meta_rows.specs.Prelude.{Rows}
 use Rattle.meta_log.specs.declared.slot.Super.{Super}
 use Rattle.meta_log.specs.Prelude.{width_of}
-use Rattle.row_format.specs.Prelude.{coll_key, onode_key, Extent, page_end, onode, shard, attribute, omap_header, omap_pair}
-use Rattle.row_format.specs.Row as format
+use Rattle.row_format.specs.Prelude.{coll_key, onode_key, Extent, page_end, onode}
 use Rattle.store_image.specs.Prelude.{HasKey, HasRow, HasOnode, pages_of, HasObject, IsInPlace, IsShardInPlace}
 use Rattle.onode_codec.specs.Reading.{SpellsOnode}
 use Rattle.onode_codec.proofs.Again.{same_onode}
 use Rattle.row_reading.specs.declared.row.Row.{Row}
 use Rattle.row_reading.specs.declared.row.Row.TheVariants as read
-use Rattle.row_check.specs.Bad.{IsRightBefore, IsWalkedTo, IsOfObject, IsOfObjectIn, IsOnodeOf, IsWithinOnode}
-use Rattle.row_check.proofs.Shards.{good_in_place}
+use Rattle.row_reading.specs.Reading.{row_of}
+use Rattle.row_check.specs.declared.passed.Passed.{Passed}
+use Rattle.row_check.specs.Bad.{IsFirst, IsLast, Knows, IsOfObject, IsPlacedOf, IsPlacedIn, IsOnodeOf, IsWithinOnode}
 
-module _ (s : Super) (rows : Rows) (key : List ℕ) where
-  -- the row right before is in its place
-  before_in_place : (last : Option Row) (r : format.Row) → IsWalkedTo s rows last key → IsRightBefore (width_of s) rows key r → IsInPlace s rows r
-  before_in_place last r walked right =
-      good_in_place s rows r right.has (walked.good (format.row_key r) (format.row_value (width_of s) r) right.below right.has.stands)
+module _ (s : Super) (rows : Rows) (Before : List ℕ → Type 0) where
+  -- what is known of a last row
+  abbrev IsLastOf : Option Row → Type 0
+  IsLastOf last = MatchOption last (IsFirst (width_of s) rows Before) (λ row. (value : List ℕ) × IsLast (width_of s) rows Before (row_of row value))
+
+  abbrev IsPlaced : Option Row → Type 0
+  IsPlaced last = IfSome last (λ row. (value : List ℕ) → IsInPlace s rows (row_of row value))
 
   same_object : (d u c o : List ℕ) → HasObject rows d u → (d ≡ c) × (u ≡ o) → HasObject rows c o
   same_object d u c o has same = subst (λ n. HasObject rows n o) same.0 (subst (λ n. HasObject rows d n) same.1 has)
 
-  -- a good row of an object has the object's rows
-  pub object_before : (last : Option Row) (c o : List ℕ) → IsWalkedTo s rows last key → IsOfObject last c o → HasObject rows c o
-  object_before None c o walked same = absurd same
-  object_before (Some (read.Collection d)) c o walked same = absurd same
-  object_before (Some (read.Bitmap r bits)) c o walked same = absurd same
-  object_before (Some (read.Onode d u size)) c o walked same =
-      let right : IsRightBefore (width_of s) rows key (onode d u size) = walked.last_is.1 in
-      let place : IsInPlace s rows (onode d u size) = before_in_place (Some (read.Onode d u size)) (onode d u size) walked right in
-      same_object d u c o (place.0, subst IsSome (sym right.has.stands) refl) same
-  object_before (Some (read.Shard d u first es)) c o walked same =
-      let place : IsShardInPlace s rows d u first es = before_in_place (Some (read.Shard d u first es)) (shard d u first es) walked walked.last_is.1 in
-      same_object d u c o (place.has_collection, place.has_onode) same
-  object_before (Some (read.Attribute d u name)) c o walked same = same_object d u c o
-      (before_in_place (Some (read.Attribute d u name)) (attribute d u name walked.last_is.0) walked walked.last_is.1) same
-  object_before (Some (read.OmapHeader d u)) c o walked same = same_object d u c o
-      (before_in_place (Some (read.OmapHeader d u)) (omap_header d u walked.last_is.0) walked walked.last_is.1) same
-  object_before (Some (read.OmapPair d u k)) c o walked same = same_object d u c o
-      (before_in_place (Some (read.OmapPair d u k)) (omap_pair d u k walked.last_is.0) walked walked.last_is.1) same
+  -- a row of an object that is in its place has the object's rows
+  object_there : (last : Option Row) (c o : List ℕ) → IsLastOf last → IsPlaced last → IsOfObject last c o → HasObject rows c o
+  object_there None c o is placed same = absurd same
+  object_there (Some (read.Collection d)) c o is placed same = absurd same
+  object_there (Some (read.Bitmap r bits)) c o is placed same = absurd same
+  object_there (Some (read.Onode d u size)) c o is placed same =
+      let place : IsInPlace s rows (onode d u size) = placed [] in
+      same_object d u c o (place.0, subst IsSome (sym is.1.has.stands) refl) same
+  object_there (Some (read.Shard d u first es)) c o is placed same =
+      let place : IsShardInPlace s rows d u first es = placed [] in same_object d u c o (place.has_collection, place.has_onode) same
+  object_there (Some (read.Attribute d u name)) c o is placed same = same_object d u c o (placed []) same
+  object_there (Some (read.OmapHeader d u)) c o is placed same = same_object d u c o (placed []) same
+  object_there (Some (read.OmapPair d u k)) c o is placed same = same_object d u c o (placed []) same
 
-  -- and so its collection's
-  pub collection_before : (last : Option Row) (c : List ℕ) → IsWalkedTo s rows last key → IsOfObjectIn last c → HasKey rows (coll_key c)
-  collection_before last c walked is = (object_before last c is.0 walked is.1).0
+  onode_there : (last : Option Row) (c o : List ℕ) (size : ℕ) → IsLastOf last → IsOnodeOf last c o size → HasOnode rows c o size
+  onode_there None c o size is same = absurd same
+  onode_there (Some (read.Collection d)) c o size is same = absurd same
+  onode_there (Some (read.Bitmap r bits)) c o size is same = absurd same
+  onode_there (Some (read.Shard d u first es)) c o size is same = absurd same
+  onode_there (Some (read.Attribute d u name)) c o size is same = absurd same
+  onode_there (Some (read.OmapHeader d u)) c o size is same = absurd same
+  onode_there (Some (read.OmapPair d u k)) c o size is same = absurd same
+  onode_there (Some (read.Onode d u own)) c o size is same = subst (HasRow (width_of s) rows) (λ i. onode (same.0 i) (same.1 i) (same.2 i)) is.1.has
 
-  pub onode_before : (last : Option Row) (c o : List ℕ) (size : ℕ) → IsWalkedTo s rows last key → IsOnodeOf last c o size → HasOnode rows c o size
-  onode_before None c o size walked same = absurd same
-  onode_before (Some (read.Collection d)) c o size walked same = absurd same
-  onode_before (Some (read.Bitmap r bits)) c o size walked same = absurd same
-  onode_before (Some (read.Shard d u first es)) c o size walked same = absurd same
-  onode_before (Some (read.Attribute d u name)) c o size walked same = absurd same
-  onode_before (Some (read.OmapHeader d u)) c o size walked same = absurd same
-  onode_before (Some (read.OmapPair d u k)) c o size walked same = absurd same
-  onode_before (Some (read.Onode d u own)) c o size walked same =
-      let right : IsRightBefore (width_of s) rows key (onode d u own) = walked.last_is.1 in
-      subst (HasRow (width_of s) rows) (λ i. onode (same.0 i) (same.1 i) (same.2 i)) right.has
+  module _ (p : Passed) (knows : Knows s rows Before p) where
+    pub object_before : (c o : List ℕ) → IsPlacedOf p c o → HasObject rows c o
+    object_before c o is = object_there p.last c o knows.last_is (knows.placed is.0) is.1
+
+    -- and so its collection's
+    pub collection_before : (c : List ℕ) → IsPlacedIn p c → HasKey rows (coll_key c)
+    collection_before c is = (object_before c is.0 is.1).0
+
+    pub onode_before : (c o : List ℕ) (size : ℕ) → IsOnodeOf p.last c o size → HasOnode rows c o size
+    onode_before c o size is = onode_there p.last c o size knows.last_is is
 
 -- the onode says one size
 one_size : (rows : Rows) (c o : List ℕ) (size other : ℕ) → HasOnode rows c o size → HasOnode rows c o other → size ≡ other

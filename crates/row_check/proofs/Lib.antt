@@ -1,5 +1,6 @@
 pub mod Walk
 pub mod Shards
+pub mod Ends
 pub mod Before
 pub mod Ascending
 pub mod Collected
@@ -10,3 +11,4 @@ pub mod MarkedRows
 pub mod DataBits
 pub mod LeastUnits
 pub mod ExactUnits
+pub mod UnitLists

@@ -97,7 +97,7 @@ abbrev by_test : Extent → List Extent → ℕ → Bool → Option Place
 by_test e es page b = cond b (Some (place_in e.body (page - e.first))) (place_of es page)
 
 -- the first extent has the page, or one behind it has
-place_cases : (e : Extent) (es : List Extent) (page : ℕ) (place : Place) → place_of (e ∷ es) page ≡ Some place
+pub place_cases : (e : Extent) (es : List Extent) (page : ℕ) (place : Place) → place_of (e ∷ es) page ≡ Some place
     → ((k : ℕ) × (k < page_count e.body) × (page ≡ e.first + k) × (place ≡ place_in e.body k)) ⊎ (place_of es page ≡ Some place)
 place_cases e es page place is = elim (cases_Bool (nat_le e.first page && nat_lt page (page_end e))) [
   | inl t ↦
@@ -107,12 +107,12 @@ place_cases e es page place is = elim (cases_Bool (nat_le e.first page && nat_lt
   | inr f ↦ inr (sym (ap (by_test e es page) f) ∙ is)
 ]
 
-first_has : (e : Extent) (es : List Extent) (k : ℕ) → k < page_count e.body → place_of (e ∷ es) (e.first + k) ≡ Some (place_in e.body k)
+pub first_has : (e : Extent) (es : List Extent) (k : ℕ) → k < page_count e.body → place_of (e ∷ es) (e.first + k) ≡ Some (place_in e.body k)
 first_has e es k lt =
     let back : (e.first + k) - e.first ≡ k = omega arith in
     ap (by_test e es (e.first + k)) (test_of e (e.first + k) (omega arith) (omega (arith, lt))) ∙ ap (λ n. Some (place_in e.body n)) back
 
-page_from : (es : List Extent) (page least : ℕ) (place : Place) → place_of es page ≡ Some place
+pub page_from : (es : List Extent) (page least : ℕ) (place : Place) → place_of es page ≡ Some place
     → AllByRecursion (λ e. least ≤ e.first) es → least ≤ page
 page_from [] page least place is all = absurd cc
 page_from (e ∷ es) page least place is all = elim (place_cases e es page place is) [
@@ -136,7 +136,7 @@ page_of_shard (e ∷ es) page first place is begins ascend = elim (place_cases e
   | inr h ↦ omega (arith, begins, page_from es page (page_end e) place h ascend.0)
 ]
 
-later_has : (e : Extent) (es : List Extent) (page : ℕ) (place : Place) → AllByRecursion (λ later. page_end e ≤ later.first) es
+pub later_has : (e : Extent) (es : List Extent) (page : ℕ) (place : Place) → AllByRecursion (λ later. page_end e ≤ later.first) es
     → place_of es page ≡ Some place → place_of (e ∷ es) page ≡ Some place
 later_has e es page place behind is = elim (cases_Bool (nat_le e.first page && nat_lt page (page_end e))) [
   | inl t ↦ absurd (omega (arith, (of_test e page t).1, page_from es page (page_end e) place is behind))

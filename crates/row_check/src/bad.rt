@@ -1,10 +1,18 @@
-//! The first bad row of a store.
-ghost use Rattle.std.specs.Prelude.{IfOk, MatchOption};
-ghost use Rattle.store_image.specs.Prelude.{IsGoodRow, NoBadRow};
-ghost use Rattle.row_check.specs.Bad.{IsLeastBad, IsWalkedTo, IsGood};
+//! The bad rows of a store: the first one, or all of them.
+//!
+//! Whether an onode or a shard is bad depends on rows of lesser keys alone: those of its collection and its object, and the object's
+//! earlier shards. An attribute, an omap header and a pair stand before the rows of their collection and their object, or between them;
+//! they need only that these are there, and are bad or good by that whatever else is. So one pass in the order of keys finds the least
+//! bad row and stops there, or goes on for all of them: it looks up the two rows of such a row's object, but where the row before is of
+//! the same object it is known to have them, and nothing is looked up.
+ghost use Rattle.std.specs.Prelude.{◌≡◌, Some, IfOk, OnOk, MatchOption, map};
+ghost use Rattle.std.specs.FinMap as rows_of_map;
+ghost use Rattle.store_image.specs.Prelude.{NoBadRow};
+ghost use Rattle.row_check.specs.Bad.{IsLeastBad, IsJudged, AreBadKeys, Knows, IsBelow, IsUpTo};
 
 use crate::in_place::{is_in_place, object_of};
-use byte_maps::Bytes;
+use crate::passed::Passed;
+use byte_maps::{Bytes, Items};
 use meta_log::Super;
 use meta_rows::RowTable;
 use row_reading::{Row, read_row_after};
@@ -19,34 +27,32 @@ fn coll_of(row: &Option<Row>) -> Option<&CollName> {
     }
 }
 
-// The row that a key and a value are, where it is good. The rows before it are good, and `last` is the last of them.
-fn good_row(
+// Whether a row is good, which is passed so.
+fn judge_row(
     alloc: Global,
     sup: &Super,
     rows: &RowTable,
-    last: &Option<Row>,
+    passed: &mut Passed,
     key: &[u8],
     value: &[u8],
-) -> Result<Option<Row>, AllocError>
-    requires { IsWalkedTo sup.now rows.now.rows last.now key.now }
-    ensures { IfOk result (λ found. MatchOption found (¬ (IsGoodRow sup.now rows.now.rows key.now value.now))
-        (IsGood sup.now rows.now.rows key.now value.now)) }
+) -> Result<bool, AllocError>
+    requires knows { Knows sup.now rows.now.rows (IsBelow key.now) passed.old }
+    requires stands { rows_of_map.get rows.now.rows key.now ≡ Some value.now }
+    ensures judged { IfOk result (IsJudged sup.now rows.now.rows key.now value.now) }
+    ensures knows { OnOk result (Knows sup.now rows.now.rows (IsUpTo key.now) passed.new) }
 {
-    let Some(row) = read_row_after(alloc, sup.width(), coll_of(last), key, value)? else {
-        return Ok(None);
+    let Some(row) = read_row_after(alloc, sup.width(), coll_of(&passed.last), key, value)? else {
+        return Ok(false);
     };
-    let fits = match is_in_place(alloc, sup, rows, last, &row) {
-        Ok(fits) => fits,
+    match is_in_place(alloc, sup, rows, passed, &row) {
+        Ok(fits) => {
+            passed.pass(row, fits);
+            Ok(fits)
+        }
         Err(full) => {
             drop(row);
-            return Err(full);
+            Err(full)
         }
-    };
-    if fits {
-        Ok(Some(row))
-    } else {
-        drop(row);
-        Ok(None)
     }
 }
 
@@ -59,22 +65,52 @@ pub fn find_bad_row(
 ) -> Result<Option<Bytes>, AllocError>
     ensures { IfOk result (λ found. MatchOption found (NoBadRow sup.now rows.now.rows) (IsLeastBad sup.now rows.now.rows)) }
 {
-    let mut last = None;
+    let mut passed = Passed::new();
     for (key, value) in rows.range(b"", None) {
-        let found = match good_row(alloc, sup, rows, &last, key.as_slice(), value.as_slice()) {
-            Ok(found) => found,
+        let judged = judge_row(
+            alloc,
+            sup,
+            rows,
+            &mut passed,
+            key.as_slice(),
+            value.as_slice(),
+        );
+        let good = match judged {
+            Ok(good) => good,
             Err(full) => {
-                drop(last);
+                drop(passed);
                 return Err(full);
             }
         };
-        let Some(row) = found else {
-            drop(last);
+        if !good {
+            drop(passed);
             let bad = Bytes::from_slice(alloc, key.as_slice())?;
             return Ok(Some(bad));
-        };
-        drop(last.replace(row));
+        }
     }
-    drop(last);
+    drop(passed);
     Ok(None)
+}
+
+/// The keys of all bad rows, in their order: what `fsck` tells. It goes on past a bad row with what the table says of it, and the rows are read
+/// once each.
+pub fn bad_rows(alloc: Global, sup: &Super, rows: &RowTable) -> Result<Items<Bytes>, AllocError>
+    ensures { IfOk result (AreBadKeys sup.now rows.now.rows) }
+{
+    let mut bad = Items::new(alloc);
+    let mut passed = Passed::new();
+    for (key, value) in rows.range(b"", None) {
+        let good = judge_row(
+            alloc,
+            sup,
+            rows,
+            &mut passed,
+            key.as_slice(),
+            value.as_slice(),
+        )?;
+        if !good {
+            bad.push(Bytes::from_slice(alloc, key.as_slice())?)?;
+        }
+    }
+    Ok(bad)
 }

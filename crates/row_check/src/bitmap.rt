@@ -1,9 +1,10 @@
 //! Whether the bitmap says which units have owners.
-ghost use Rattle.std.specs.Prelude.{◌≡◌, ◌<◌, ℕ, true, false, length, slice_index, IsTrue, IfOk, IfErr, IfNone, IfSome};
+ghost use Rattle.std.specs.Prelude.{◌≡◌, ◌⊎◌, ◌<◌, ◌^◌, ℕ, true, false, not, filter, length, slice_index, IsTrue, IfOk, IfErr, IfNone, IfSome};
 ghost use Rattle.std.specs.List.{AllByRecursion};
 ghost use Rattle.std.specs.FinSet as set;
 ghost use Rattle.meta_log.specs.Prelude.{width_of, IsSuper};
-ghost use Rattle.store_image.specs.Prelude.{NoBadRow, IsExactAs, IsLeastInexact};
+ghost use Rattle.store_image.specs.Prelude.{NoBadRow, IsExactAs, IsLeastInexact, IsOwned, IsMarked, IsLeaked, HasSoleOwner};
+ghost use Rattle.ordered_lists.specs.Lists.{IsIn, ListsAll};
 ghost use Rattle.bitmap_freelist.specs.Bitmap.{Has, AreMarked};
 ghost use Rattle.row_check.specs.Least.{IsLeastOf, IsOutside, IsWrong, lesser_of};
 
@@ -69,6 +70,76 @@ fn least_wrong(owners: &OwnedUnits, marked: &UnitSet) -> Option<u32>
     ensures { IsLeastOf (IsWrong owners.now.owned owners.now.shared marked.now) result }
 {
     lesser(least_outside(&owners.owned, marked), least(&owners.shared))
+}
+
+/// Units by what is wrong with them: what `fsck` tells of a store without bad rows. Each list ascends.
+#[derive(Drop)]
+pub struct WrongUnits {
+    /// Marked, and nobody owns them.
+    pub leaked: Vec<u32>,
+    /// Owned, and not marked.
+    pub unmarked: Vec<u32>,
+    /// Owned by two pages or more.
+    pub doubled: Vec<u32>,
+}
+
+// Those of the units that are none of the others.
+fn those_outside(alloc: Global, units: &[u32], others: &UnitSet) -> Result<Vec<u32>, AllocError>
+    ensures { IfOk result (λ v. v.items ≡ filter (λ unit. not (set.contains others.now unit)) units.now) }
+{
+    units
+        .iter()
+        .copied()
+        .filter(|unit| !others.contains(*unit))
+        .collect(alloc)
+}
+
+// A copy of the units.
+fn copy_of(alloc: Global, units: &[u32]) -> Result<Vec<u32>, AllocError>
+    ensures { IfOk result (λ v. v.items ≡ units.now) }
+{
+    units.iter().copied().collect(alloc)
+}
+
+// The units that are none of the others. None is looked up where both sets are the same.
+fn units_outside(alloc: Global, units: &UnitSet, others: &UnitSet) -> Result<Vec<u32>, AllocError>
+    ensures { IfOk result (λ outside. ListsAll (λ a b. a < b) (IsOutside units.now others.now) outside.items) }
+{
+    if are_same(units, others) {
+        return Ok(Vec::new(alloc));
+    }
+    those_outside(alloc, units.as_slice(), others)
+}
+
+// All of the units.
+fn units_in(alloc: Global, units: &UnitSet) -> Result<Vec<u32>, AllocError>
+    ensures { IfOk result (λ all. ListsAll (λ a b. a < b) (Has units.now) all.items) }
+{
+    copy_of(alloc, units.as_slice())
+}
+
+/// The units that are marked and that nobody owns, those that have an owner and aren't marked, and those that have two owners or more: what
+/// `fsck` tells. Each other unit that is marked has an owner.
+pub fn wrong_units(alloc: Global, sup: &Super, rows: &RowTable) -> Result<WrongUnits, AllocError>
+    requires limits { IsSuper sup.now }
+    requires good { NoBadRow sup.now rows.now.rows }
+    ensures leaked { IfOk result (λ wrong. ListsAll (λ a b. a < b) (IsLeaked (width_of sup.now) rows.now.rows) wrong.leaked.items) }
+    ensures unmarked { IfOk result (λ wrong. ListsAll (λ a b. a < b)
+        (λ unit. IsOwned (width_of sup.now) rows.now.rows unit × ¬ IsMarked rows.now.rows unit) wrong.unmarked.items) }
+    ensures doubled { IfOk result (λ wrong. ListsAll (λ a b. a < b) (λ unit. ¬ HasSoleOwner (width_of sup.now) rows.now.rows unit) wrong.doubled.items) }
+    ensures others { IfOk result (λ wrong. (unit : ℕ) → unit < 2 ^ 32 → IsMarked rows.now.rows unit →
+        IsIn unit wrong.leaked.items ⊎ IsOwned (width_of sup.now) rows.now.rows unit) }
+{
+    let owners = owned_units(alloc, sup, rows)?;
+    let marked = bitmap_freelist::read(alloc, rows)?;
+    let leaked = units_outside(alloc, &marked, &owners.owned)?;
+    let unmarked = units_outside(alloc, &owners.owned, &marked)?;
+    let doubled = units_in(alloc, &owners.shared)?;
+    Ok(WrongUnits {
+        leaked,
+        unmarked,
+        doubled,
+    })
 }
 
 /// The units that the bitmap marks: what a mount asks for before it opens a store, so that the allocator gives none of them to anybody. Else the

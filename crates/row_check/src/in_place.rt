@@ -6,9 +6,10 @@ ghost use Rattle.row_format.specs.Prelude.{coll_key, onode_key, page_end, Extent
 ghost use Rattle.store_image.specs.Prelude.{HasKey, HasOnode, pages_of, IsOnData, HasObject, AreOfData, IsInPlace, IsDataUnit};
 ghost use Rattle.onode_codec.specs.Reading.{SpellsOnode};
 ghost use Rattle.row_reading.specs.Reading.{row_of};
-ghost use Rattle.row_check.specs.Bad.{EndsBefore, IsOfObject, IsOfNoObject, IsOfObjectIn, IsOnodeOf, IsWithinOnode, ShardStands, IsWalkedToRow};
+ghost use Rattle.row_check.specs.Bad.{IsOfObject, IsOfNoObject, IsPlacedOf, IsPlacedIn, IsOnodeOf, IsWithinOnode, ShardStands, IsAtRow};
 ghost use Rattle.row_check.specs.DataBits.{bit_at_place, IsBitOfData};
 
+use crate::passed::{Passed, is_of_object};
 use meta_log::Super;
 use meta_rows::RowTable;
 use onode_codec::{Body, Extent, Onode, coll_key, onode_key};
@@ -66,32 +67,6 @@ fn all_on_data(sup: &Super, extents: &[Extent]) -> bool
     extents.iter().all(|extent| is_on_data(sup, extent))
 }
 
-fn is_of_object(row_coll: &CollName, row_object: &Name, coll: &CollName, object: &Name) -> bool
-    ensures { IsTrue result ↔ ((row_coll.now ≡ coll.now) × (row_object.now ≡ object.now)) }
-{
-    row_coll.as_slice() == coll.as_slice() && row_object.as_slice() == object.as_slice()
-}
-
-// Whether the row before is no shard of this object, or one whose pages are all before this one.
-fn ends_before(last: &Option<Row>, coll: &CollName, object: &Name, page: u32) -> bool
-    ensures { IsTrue result ↔ EndsBefore last.now coll.now object.now page }
-{
-    match last {
-        Some(
-            Row::Shard {
-                coll: of_coll,
-                object: of_object,
-                page: _page,
-                extents,
-            },
-        ) => {
-            !is_of_object(of_coll, of_object, coll, object)
-                || all_end_by(extents.as_slice(), u64::from(page))
-        }
-        _ => true,
-    }
-}
-
 /// The names of the object that the row before is of, if it is of one.
 pub fn object_of(last: &Option<Row>) -> Option<(&CollName, &Name)>
     ensures { MatchOption result (IsOfNoObject last.now) (λ names. IsOfObject last.now names.0.now names.1.now) }
@@ -131,37 +106,38 @@ pub fn object_of(last: &Option<Row>) -> Option<(&CollName, &Name)>
     }
 }
 
-// Whether the row before is of an object of this collection.
-fn is_last_in(last: &Option<Row>, coll: &CollName) -> bool
-    ensures { IsTrue result ↔ IsOfObjectIn last.now coll.now }
+// Whether the last row is in its place, and of an object of this collection.
+fn is_last_in(passed: &Passed, coll: &CollName) -> bool
+    ensures { IsTrue result ↔ IsPlacedIn passed.now coll.now }
 {
-    match object_of(last) {
-        Some((of_coll, _)) => of_coll.as_slice() == coll.as_slice(),
+    match object_of(&passed.last) {
+        Some((of_coll, _)) => passed.in_place && of_coll.as_slice() == coll.as_slice(),
         None => false,
     }
 }
 
-// Whether the row before is of this object.
-fn is_last_of(last: &Option<Row>, coll: &CollName, object: &Name) -> bool
-    ensures { IsTrue result ↔ IsOfObject last.now coll.now object.now }
+// Whether the last row is in its place, and of this object.
+fn is_last_of(passed: &Passed, coll: &CollName, object: &Name) -> bool
+    ensures { IsTrue result ↔ IsPlacedOf passed.now coll.now object.now }
 {
-    match object_of(last) {
-        Some((of_coll, of_object)) => is_of_object(of_coll, of_object, coll, object),
+    match object_of(&passed.last) {
+        Some((of_coll, of_object)) => passed.in_place
+            && is_of_object(of_coll, of_object, coll, object),
         None => false,
     }
 }
 
-// Whether the collection is there. Where the row before is good and of one of its objects, it is.
+// Whether the collection is there. Where the last row is in its place and of one of its objects, it is.
 fn has_collection(
     alloc: Global,
     rows: &RowTable,
-    last: &Option<Row>,
+    passed: &Passed,
     coll: &CollName,
 ) -> Result<bool, AllocError>
-    requires { IsOfObjectIn last.now coll.now → HasKey rows.now.rows (coll_key coll.now) }
+    requires { IsPlacedIn passed.now coll.now → HasKey rows.now.rows (coll_key coll.now) }
     ensures { IfOk result (λ there. IsTrue there ↔ HasKey rows.now.rows (coll_key coll.now)) }
 {
-    if is_last_in(last, coll) {
+    if is_last_in(passed, coll) {
         return Ok(true);
     }
     let key = coll_key(alloc, coll)?;
@@ -181,22 +157,22 @@ fn has_onode(
     Ok(rows.get(key.as_slice()).is_some())
 }
 
-// Whether the object is there. Where the row before is good and one of the object's, it is.
+// Whether the object is there. Where the last row is in its place and one of the object's, it is.
 fn has_object(
     alloc: Global,
     rows: &RowTable,
-    last: &Option<Row>,
+    passed: &Passed,
     coll: &CollName,
     object: &Name,
 ) -> Result<bool, AllocError>
-    requires collection { IsOfObjectIn last.now coll.now → HasKey rows.now.rows (coll_key coll.now) }
-    requires object { IsOfObject last.now coll.now object.now → HasObject rows.now.rows coll.now object.now }
+    requires collection { IsPlacedIn passed.now coll.now → HasKey rows.now.rows (coll_key coll.now) }
+    requires object { IsPlacedOf passed.now coll.now object.now → HasObject rows.now.rows coll.now object.now }
     ensures { IfOk result (λ there. IsTrue there ↔ HasObject rows.now.rows coll.now object.now) }
 {
-    if is_last_of(last, coll, object) {
+    if is_last_of(passed, coll, object) {
         return Ok(true);
     }
-    Ok(has_collection(alloc, rows, last, coll)? && has_onode(alloc, rows, coll, object)?)
+    Ok(has_collection(alloc, rows, passed, coll)? && has_onode(alloc, rows, coll, object)?)
 }
 
 // Whether the extents end within an object of this size.
@@ -236,17 +212,17 @@ fn size_of(last: &Option<Row>, coll: &CollName, object: &Name) -> Option<u64>
 fn are_within_object(
     alloc: Global,
     rows: &RowTable,
-    last: &Option<Row>,
+    passed: &Passed,
     coll: &CollName,
     object: &Name,
     extents: &[Extent],
 ) -> Result<bool, AllocError>
     requires coll { IsCollName coll.now }
     requires object { IsName object.now }
-    requires before { (size : ℕ) → IsOnodeOf last.now coll.now object.now size → HasOnode rows.now.rows coll.now object.now size }
+    requires before { (size : ℕ) → IsOnodeOf passed.now.last coll.now object.now size → HasOnode rows.now.rows coll.now object.now size }
     ensures { IfOk result (λ within. IsTrue within ↔ IsWithinOnode rows.now.rows coll.now object.now extents.now) }
 {
-    if let Some(size) = size_of(last, coll, object) {
+    if let Some(size) = size_of(&passed.last, coll, object) {
         return Ok(are_within_size(extents, size));
     }
     let key = onode_key(alloc, coll, object)?;
@@ -256,24 +232,24 @@ fn are_within_object(
     }
 }
 
-// Whether the extents of a shard are in their place, where the rows before it are as they should be.
+// Whether the extents of a shard are in their place, where those of the object's earlier shards end before it.
 fn shard_stands(
     alloc: Global,
     sup: &Super,
     rows: &RowTable,
-    last: &Option<Row>,
+    passed: &Passed,
     coll: &CollName,
     object: &Name,
     extents: &[Extent],
 ) -> Result<bool, AllocError>
     requires coll { IsCollName coll.now }
     requires object { IsName object.now }
-    requires collection { IsOfObjectIn last.now coll.now → HasKey rows.now.rows (coll_key coll.now) }
-    requires before { (size : ℕ) → IsOnodeOf last.now coll.now object.now size → HasOnode rows.now.rows coll.now object.now size }
+    requires collection { IsPlacedIn passed.now coll.now → HasKey rows.now.rows (coll_key coll.now) }
+    requires before { (size : ℕ) → IsOnodeOf passed.now.last coll.now object.now size → HasOnode rows.now.rows coll.now object.now size }
     ensures { IfOk result (λ stands. IsTrue stands ↔ ShardStands sup.now rows.now.rows coll.now object.now extents.now) }
 {
-    if ascend(extents) && all_on_data(sup, extents) && has_collection(alloc, rows, last, coll)? {
-        are_within_object(alloc, rows, last, coll, object, extents)
+    if ascend(extents) && all_on_data(sup, extents) && has_collection(alloc, rows, passed, coll)? {
+        are_within_object(alloc, rows, passed, coll, object, extents)
     } else {
         Ok(false)
     }
@@ -317,15 +293,15 @@ fn are_of_data(sup: &Super, row: u32, bits: &[u8]) -> bool
     true
 }
 
-/// Whether a row is in its place among all rows, where the rows before it are good and `last` is the last of them.
+/// Whether a row is in its place among all rows, where those before it were passed.
 pub fn is_in_place(
     alloc: Global,
     sup: &Super,
     rows: &RowTable,
-    last: &Option<Row>,
+    passed: &Passed,
     row: &Row,
 ) -> Result<bool, AllocError>
-    requires { IsWalkedToRow sup.now rows.now.rows last.now row.now }
+    requires { IsAtRow sup.now rows.now.rows passed.now row.now }
     ensures { IfOk result (λ placed. (value : List ℕ) → IsTrue placed ↔ IsInPlace sup.now rows.now.rows (row_of row.now value)) }
 {
     match row {
@@ -334,15 +310,15 @@ pub fn is_in_place(
             coll,
             object: _object,
             size,
-        } => Ok(*size <= OBJECT_LIMIT && has_collection(alloc, rows, last, coll)?),
+        } => Ok(*size <= OBJECT_LIMIT && has_collection(alloc, rows, passed, coll)?),
         Row::Shard {
             coll,
             object,
             page,
             extents,
         } => {
-            if ends_before(last, coll, object, *page) {
-                shard_stands(alloc, sup, rows, last, coll, object, extents.as_slice())
+            if passed.ends_before(coll, object, *page) {
+                shard_stands(alloc, sup, rows, passed, coll, object, extents.as_slice())
             } else {
                 Ok(false)
             }
@@ -351,13 +327,13 @@ pub fn is_in_place(
             coll,
             object,
             name: _name,
-        } => has_object(alloc, rows, last, coll, object),
-        Row::OmapHeader { coll, object } => has_object(alloc, rows, last, coll, object),
+        } => has_object(alloc, rows, passed, coll, object),
+        Row::OmapHeader { coll, object } => has_object(alloc, rows, passed, coll, object),
         Row::OmapPair {
             coll,
             object,
             key: _key,
-        } => has_object(alloc, rows, last, coll, object),
+        } => has_object(alloc, rows, passed, coll, object),
         Row::Bitmap { row, bits } => Ok(are_of_data(sup, *row, bits.as_slice())),
     }
 }

@@ -24,8 +24,8 @@ pub(crate) struct OwnedUnits {
     pub(crate) shared: UnitSet,
 }
 
-// Whether the row that a key and a value spell is a shard: of an object's other row, its onode, the value has eight bytes.
-fn is_shard(key: &[u8], value: &[u8]) -> bool
+/// Whether the row that a key and a value spell is a shard: of an object's other row, its onode, the value has eight bytes.
+pub fn is_shard(key: &[u8], value: &[u8]) -> bool
     ensures { (width : Width) → TellsShard width key.now value.now result }
 {
     match key.split_first() {

@@ -1,4 +1,6 @@
 //! Keys and values read as rows.
+//!
+//! A value of an attribute, a header or a pair is measured where it lies, and not copied, when rows are read.
 ghost use Rattle.std.specs.Prelude.{◌≡◌, ◌↔◌, ◌<◌, ◌≤◌, false, length, IsTrue, IfOk, MatchOption};
 ghost use Rattle.meta_rows.specs.Prelude.{all_zero};
 ghost use Rattle.unit_fields.specs.Prelude.{IsName, IsCollName};

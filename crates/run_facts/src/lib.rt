@@ -1,6 +1,9 @@
 //! What the kernel keeps from call to call and so along runs, whatever its device is, and that each call which leaves it up has
 //! a footprint: facts of the whole state, rows and room and book beside what is in flight, and a law for each call that says
 //! that it keeps them.
+//!
+//! Proved: each step and each submission keeps it, and each step lowers the work that is left; a call that leaves the kernel up has a
+//! footprint, by which the facts above are kept; a unit with a page that isn't in memory is in no flight.
 #![tactic(auto)]
 
 mod laws;

@@ -25,6 +25,14 @@ fn print_ended(status: u8, dev: Option<&MemoryDevice>, out: &mut Text) {
     }
 }
 
+/// Whether a text says what is wrong with words, or how to use the program.
+fn tells_usage(text: &[u8]) -> bool {
+    match str::from_utf8(text) {
+        Ok(text) => text.starts_with("error: ") || text.contains("Usage: bstore"),
+        Err(_) => false,
+    }
+}
+
 /// Adds the words of a line, with a number in the place of the word `N`.
 fn push_words(
     alloc: Global,
@@ -175,10 +183,10 @@ impl<C: Commands> Case<C> {
         self.ran.status == status && self.ran.dev.is_none()
     }
 
-    /// Shows a run, unless the words were no command line: status 1, no device, and a text that begins so.
+    /// Shows a run, unless the words were no command line: status 1, no device, and a text that says what is wrong, or how to use the program.
     fn run_usage(&mut self, words: Words<'_>, out: &mut Text) -> Result<(), CaseError> {
         self.run_line(words.text())?;
-        if !self.text.starts_with(b"usage: ") || !self.has_ended_with(1) {
+        if !tells_usage(&self.text) || !self.has_ended_with(1) {
             self.print_run(out);
         }
         Ok(())

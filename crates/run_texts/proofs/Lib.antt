@@ -4,4 +4,5 @@ pub mod TextLemmas
 pub mod ReplyLemmas
 pub mod IndexLemmas
 pub mod DumpLemmas
+pub mod FsckLemmas
 pub mod HexLemmas

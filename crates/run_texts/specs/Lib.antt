@@ -5,6 +5,7 @@ pub mod Replies
 pub mod ReplyIndex
 pub mod StepTexts
 pub mod DumpTexts
+pub mod FsckTexts
 pub mod Printed
 pub mod Printing
 pub mod Dumping

@@ -6,7 +6,8 @@ pub use Rattle.run_texts.specs.Replies.{names_text, reply_text, entry_line, clie
 pub use Rattle.run_texts.specs.ReplyIndex.{clients_of, next_place, place_from, AreLinked, IsIndexOf}
 pub use Rattle.run_texts.specs.StepTexts.{end_status, step_number, fail_lines, end_lines, step_text}
 pub use Rattle.run_texts.specs.DumpTexts.{view_line, value_line, value_lines, header_lines, object_lines, coll_lines, walk_lines, is_bad, has_bad_view, last_lines, dump_text, dump_number}
+pub use Rattle.run_texts.specs.FsckTexts.{finding_line, finding_lines, count_line, fsck_text, fsck_number}
 pub use Rattle.run_texts.specs.Printed.{Output, output, TookAll, TookFront, FailedToPrint, Printed}
 pub use Rattle.run_texts.specs.Printing.{Waiting, IsUnderWay, HasStopped, PrintedSoFar, Adds}
 pub use Rattle.run_texts.specs.Dumping.{DumpSoFar, nothing_dumped, AddsLines, AddsWalk}
-pub use Rattle.run_texts.specs.Reports.{ReportsStep, ReportsDump, ShowedUsage}
+pub use Rattle.run_texts.specs.Reports.{ReportsStep, ReportsDump, ReportsFsck, ReportsStop, ShowedUsage}

@@ -1,4 +1,9 @@
 //! Text on its way to a sink, in pieces.
+//!
+//! A text goes to the sink in pieces of at most 16 KiB, from room on the stack. Printing takes memory for one thing alone, a note for
+//! each entry whether its commit is acknowledged and where the next entry of its client is; where there is none for it, the commits are
+//! searched for each entry, and the entries for each of the 64 clients. So a status 5 comes from the run and never from its text, and a
+//! run whose memory has ended still says what it has.
 ghost use Rattle.std.specs.Prelude.{◌≡◌, ◌+◌, ◌<◌, ◌≤◌, [], ◌++◌, ℕ, List, false, MatchResult, OnOk, OnErr, length, decimal};
 ghost use Rattle.run_texts.specs.Printed.{Output, output, TookAll, TookFront};
 ghost use Rattle.run_texts.specs.Printing.{Adds, PrintedSoFar};

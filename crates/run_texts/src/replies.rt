@@ -14,7 +14,7 @@ use crate::printer::Printer;
 use crate::reply_index::{CLIENTS, ReplyIndex, first_place, is_acked_at, place_behind};
 use byte_maps::Bytes;
 use end_points::Sink;
-use object_model::{Answer, Book, Command, Entry, Refusal};
+use object_model::{Answer, Asked, Book, CommandKind, Entry, Refusal};
 use std::alloc::Global;
 use unit_fields::UnitNo;
 
@@ -34,14 +34,14 @@ fn refusal_text(refusal: Refusal) -> &'static str
 }
 
 /// What stands before the bytes that a command has read.
-fn bytes_word(command: &Command) -> &'static str
+fn bytes_word(command: &Asked) -> &'static str
     ensures { result.now ≡ bytes_word command.now }
 {
-    match command {
-        Command::Read { .. } => "data ",
-        Command::GetAttr { .. } => "attr ",
-        Command::OmapGet { .. } => "omap ",
-        Command::OmapHeader { .. } => "header ",
+    match command.kind() {
+        CommandKind::Read => "data ",
+        CommandKind::GetAttr => "attr ",
+        CommandKind::OmapGet => "omap ",
+        CommandKind::OmapHeader => "header ",
         _ => "",
     }
 }
@@ -60,7 +60,7 @@ pub fn push_csum<K: Sink>(text: &mut Printer, out: &mut K, unit: UnitNo, kept: u
 }
 
 /// Adds the bytes that a command has read.
-fn push_bytes<K: Sink>(text: &mut Printer, out: &mut K, command: &Command, bytes: &[u8])
+fn push_bytes<K: Sink>(text: &mut Printer, out: &mut K, command: &Asked, bytes: &[u8])
     ensures { Adds (bytes_word command.now ++ hex_or_dash bytes.now) text.old text.new
         (output (K.written out.old) (K.faults out.old)) (output (K.written out.new) (K.faults out.new)) }
 {

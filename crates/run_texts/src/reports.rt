@@ -5,14 +5,18 @@ ghost use Rattle.run_texts.specs.Texts.{mkfs_text};
 ghost use Rattle.run_texts.specs.Printed.{Output, output, Printed};
 ghost use Rattle.run_texts.specs.Printing.{Adds, PrintedSoFar};
 ghost use Rattle.run_texts.specs.StepTexts.{end_status};
-ghost use Rattle.run_texts.specs.Reports.{ReportsMkfs, ReportsStep, ShowedUsage};
+ghost use Rattle.run_texts.specs.FsckTexts.{fsck_text, fsck_number};
+ghost use Rattle.run_texts.specs.Reports.{ReportsMkfs, ReportsStep, ReportsFsck, ReportsStop, ShowedUsage};
 
 use crate::printer::Printer;
 use crate::replies::has_csum;
-use crate::step_texts::push_step;
-use crate::texts::{USAGE, push_made, push_stopped, push_too_small};
+use crate::fsck_texts::{push_count, push_findings};
+use crate::step_texts::{push_fail, push_step};
+use crate::texts::{push_made, push_stopped, push_too_small};
 use crate::{Status, Stop, WorkEnd};
+use byte_maps::Items;
 use end_points::{Fault, Sink};
+use findings::Finding;
 use object_model::Book;
 use std::alloc::Global;
 
@@ -86,11 +90,57 @@ pub fn report_step<K: Sink>(alloc: Global, book: &Book, end: &WorkEnd, out: &mut
     print_rest(text, out, status)
 }
 
-/// Prints how the program is called.
-pub fn show_usage<K: Sink>(out: &mut K) -> Status
-    ensures { ShowedUsage (number result) (output (K.written out.old) (K.faults out.old)) (output (K.written out.new) (K.faults out.new)) }
+/// Prints that a run stopped for this, and nothing else.
+pub fn report_stop<K: Sink>(stop: Stop, out: &mut K) -> Status
+    ensures { ReportsStop stop (number result) (output (K.written out.old) (K.faults out.old)) (output (K.written out.new) (K.faults out.new)) }
 {
     let mut text = Printer::new();
-    text.push_str(out, USAGE);
+    push_stopped(&mut text, out, stop);
+    print_rest(text, out, Status::Stopped(stop))
+}
+
+/// Adds the text of a run of `fsck`.
+fn push_fsck<K: Sink>(text: &mut Printer, out: &mut K, ended: &Result<Items<Finding>, WorkEnd>)
+    ensures { Adds (fsck_text ended.now) text.old text.new
+        (output (K.written out.old) (K.faults out.old)) (output (K.written out.new) (K.faults out.new)) }
+{
+    match ended {
+        Ok(found) => {
+            push_findings(text, out, found.as_slice());
+            push_count(text, out, found.len() as u64)
+        }
+        Err(end) => push_fail(text, out, false, end),
+    }
+}
+
+/// How a run of `fsck` has ended.
+fn fsck_status(ended: &Result<Items<Finding>, WorkEnd>) -> Status
+    ensures { number result ≡ fsck_number ended.now }
+{
+    match ended {
+        Ok(found) if found.is_empty() => Status::Done,
+        Ok(_) => Status::Stopped(Stop::Refused),
+        Err(end) => run_status(false, end),
+    }
+}
+
+/// Prints what a run of `fsck` found, or why it looked through no store, and says how the run has ended.
+pub fn report_fsck<K: Sink>(ended: &Result<Items<Finding>, WorkEnd>, out: &mut K) -> Status
+    ensures { ReportsFsck ended.now (number result)
+        (output (K.written out.old) (K.faults out.old)) (output (K.written out.new) (K.faults out.new)) }
+{
+    let mut text = Printer::new();
+    push_fsck(&mut text, out, ended);
+    print_rest(text, out, fsck_status(ended))
+}
+
+/// Prints why words are no command line: what is wrong with them, or the help that was asked for.
+pub fn show_usage<K: Sink>(told: &str, out: &mut K) -> Status
+    ensures { ShowedUsage (number result) (output (K.written out.old) (K.faults out.old)) (output (K.written out.new) (K.faults out.new)) }
+{
+    let line = told.strip_suffix("\n").unwrap_or(told);
+    let mut text = Printer::new();
+    text.push_str(out, line);
+    text.push_str(out, "\n");
     print_rest(text, out, Status::NotACommandLine)
 }

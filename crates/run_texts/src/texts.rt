@@ -9,10 +9,6 @@ use crate::Stop;
 use crate::printer::Printer;
 use end_points::Sink;
 
-/// A line for each command.
-pub const USAGE: &str =
-    "usage: bstore mkfs DEV --half H --units N\nusage: bstore step DEV --seed S SCRIPT..\nusage: bstore dump DEV\n";
-
 /// Adds what a run prints that has made a store.
 pub fn push_made<K: Sink>(text: &mut Printer, out: &mut K, half: u32, units: u32)
     requires half { half ≤ 65536 }

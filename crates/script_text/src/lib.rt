@@ -1,4 +1,10 @@
 //! Scripts: the lines of one client, as commands with their line numbers; and names as scripts spell them.
+//!
+//! Proved: the commands and `wait`s are those of the grammar, of all bytes up to the end; a script is refused exactly where a line is
+//! outside the grammar or the limits, or can't stand behind those before it, by the number of the first such line, or where a block isn't
+//! ended, by the number one past the last line; a failed read is answered only where the source's count rose, and any other answer comes
+//! only where it didn't. A block is one transaction of all its operations, with the line of its `begin`. Of `wait`s one behind another
+//! only the first is kept. What is said is kept with its data as they are spelled, and written out when it is used (`Said::into_what`).
 #![tactic(auto)]
 
 mod about;

@@ -1,5 +1,7 @@
 //! Cases in text: each argument names a file of cases, and what each case comes to is printed. The folder that a file lies in says
 //! what its cases are. What must come is in the file `stdout`, written by hand from what the commands promise.
+//!
+//! Proved: nothing but that it is total: it is safe and returns, and what its cases print is compared with what was written by hand.
 #![tactic(auto)]
 
 use block_device::MemoryDevice;

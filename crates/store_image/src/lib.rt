@@ -1,5 +1,7 @@
 //! What an image of a device stands for, as definitions and the laws that they deserve: bad rows, the page map, owners of
 //! units, the objects that rows and units stand for, the premise on chance, and prefix durability.
+//!
+//! Proved: an image stands for at most one Objects; only units on which pages stand matter, and these are the owned ones.
 #![tactic(auto)]
 
 mod laws;

@@ -14,6 +14,7 @@ use Rattle.meta_log.specs.Prelude.{width_of}
 use Rattle.meta_store.specs.Store as meta
 use Rattle.unit_allocator.specs.Prelude.{Space, free_units, taken}
 use Rattle.unit_allocator.proofs.FreeUnits.{listed_is_free}
+use Rattle.row_format.specs.Prelude.{Place}
 use Rattle.plan_rows.specs.declared.plan.FreshUnit.{FreshUnit}
 use Rattle.plan_rows.specs.declared.plan.Plan.{Plan}
 use Rattle.plan_rows.specs.declared.plan.ReadUnit.{ReadUnit}
@@ -21,12 +22,12 @@ use Rattle.plan_drafts.specs.Prelude.{IsKnown, fresh_units, PlanKeeps, PlanTakes
 use Rattle.draft_rows.proofs.PlanLaws.{plans_keep, plans_short}
 use Rattle.store_steps.specs.declared.context.Context.{Context}
 use Rattle.store_steps.specs.declared.flight.Flying.{Flying}
-use Rattle.store_steps.specs.Prelude.{State, CanNote, Accepts, accepted_with, need_of, memory_of}
+use Rattle.store_steps.specs.Prelude.{State, CanNote, Accepts, accepted_with, need_of, memory_of, IsReadNow}
 use Rattle.run_facts.specs.Prelude.{IsKept}
 use Rattle.run_facts.proofs.Prelude.{kept_submitted, kept_free, submitted_short, fresh_not_in_memory}
 use Rattle.onode_state.specs.Objects.{AreRowsOfAStore, AreRowsOfWidth}
-use Rattle.read_facts.specs.Prelude.{IsHeldAt, IsFound}
-use Rattle.page_sources.specs.Prelude.{IsPlacesFail}
+use Rattle.read_facts.specs.Prelude.{IsHeldAt, AreGoodPlaces}
+use Rattle.page_sources.specs.Prelude.{HasPlaceToRead, IsPlacesFail}
 use Rattle.page_sources.specs.declared.parts.PartFail.{PartFail}
 use Rattle.page_sources.specs.declared.parts.PartFail.TheVariants as part
 use Rattle.txn_planner.specs.declared.drafts.Draft.{Draft}
@@ -44,7 +45,6 @@ use Rattle.store_image.specs.Prelude.{IsDataUnit}
 use Rattle.store_kernel.specs.Prepared.{IsPlanOf, IsPrepared}
 use Rattle.store_kernel.specs.Submitting.{cause_of_plan, cause_of_read, IsCauseOf}
 use Rattle.store_kernel.specs.declared.refused.Cause.{Cause}
-use Rattle.store_kernel.specs.declared.refused.Cause.TheVariants as cause
 use Rattle.store_kernel.specs.Seen.{state_of}
 use Rattle.store_kernel.specs.Units.{CanBeTaken}
 
@@ -57,16 +57,19 @@ rows_of_a_store s d kept up = record { sup = s.log.sup; limits = kept.always.lim
 pub rows_of_width : (s : State) (d : Disk) → IsKept s d → CanNote s → AreRowsOfWidth (width_of s.log.sup) s.submitted
 rows_of_width s d kept can = record { store = rows_of_a_store s d kept can.up; wide = refl }
 
--- what planning gives is a plan of the submitted rows, over the old bytes that were read
-pub given : (s : State) (d : Disk) (change : Change) (plan : Plan) (memory : ℕ → Option (List ℕ)) (read : List ReadUnit) → IsKept s d → CanNote s
-    → memory ≡ memory_of s → IsPlanFor (width_of s.log.sup) change s.submitted s.space plan → plan.read ≡ read
-    → AllByRecursion (λ r. IsFound memory (IsHeldAt d) r.unit r.bytes) read → IsPlanOf change s d plan
-given s d change plan memory read kept can same is read_is found = record {
-  not_refused = is.not_refused;
-  plans = is.plans s.log.sup refl (kept_free s d kept can.up);
-  read = subst (AllByRecursion (λ r. IsFound (memory_of s) (IsHeldAt d) r.unit r.bytes)) (sym read_is)
-      (subst (λ (m : ℕ → Option (List ℕ)). AllByRecursion (λ r. IsFound m (IsHeldAt d) r.unit r.bytes) read) same found);
-}
+-- what planning gives is a plan of the submitted rows, over the old bytes that were read of its places
+pub given : (s : State) (d : Disk) (change : Change) (plan : Plan) (memory : ℕ → Option (List ℕ)) (places : List Place) (read : List ReadUnit)
+    → IsKept s d → CanNote s → memory ≡ memory_of s → IsPlanFor (width_of s.log.sup) change s.submitted s.space places plan → plan.read ≡ read
+    → AreGoodPlaces memory (IsHeldAt d) places (map (λ r. r.bytes) read) → IsPlanOf change s d plan
+given s d change plan memory places read kept can same is read_is good =
+    let both = is.plans s.log.sup refl (kept_free s d kept can.up) in
+    record {
+      not_refused = is.not_refused;
+      plans = both.0;
+      read = subst (λ (ps : List Place). IsReadNow s d ps plan) both.1
+          (subst (λ (rs : List ReadUnit). AreGoodPlaces (memory_of s) (IsHeldAt d) places (map (λ r. r.bytes) rs)) (sym read_is)
+          (subst (λ (m : ℕ → Option (List ℕ)). AreGoodPlaces m (IsHeldAt d) places (map (λ r. r.bytes) read)) same good));
+    }
 
 -- why there is none: it is refused, units are wanting, or memory is
 pub no_draft : (s : State) (d : Disk) (change : Change) (why : PlanFail) → IsPlanFail (width_of s.log.sup) change s.submitted s.space why
@@ -87,7 +90,14 @@ not_read s d change memory draft (part.BadPage bad) same is fails = record {
   enough = is.enough;
   first_bad = subst (λ (m : ℕ → Option (List ℕ)). IsPlacesFail m d (places_in draft) (part.BadPage bad)) same fails;
 }
-not_read s d change memory draft part.Fault same is fails = tt
+not_read s d change memory draft part.Fault same is fails = record {
+  not_refused = is.not_refused;
+  need = draft.planning.taken;
+  places = places_in draft;
+  asks = is.asks;
+  enough = is.enough;
+  to_read = subst (λ (m : ℕ → Option (List ℕ)). HasPlaceToRead m (places_in draft)) same fails;
+}
 not_read s d change memory draft part.Memory same is fails = tt
 
 -- a cause that is handed on

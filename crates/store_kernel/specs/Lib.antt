@@ -2,6 +2,7 @@ pub mod Seen
 pub mod Ends
 pub mod Units
 pub mod Steps
+pub mod ToRead
 pub mod Prepared
 pub mod Submitting
 pub mod Reading

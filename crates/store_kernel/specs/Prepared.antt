@@ -8,14 +8,14 @@ use Rattle.read_facts.specs.Prelude.{IsNotRefused}
 use Rattle.plan_rows.specs.declared.plan.Plan.{Plan}
 use Rattle.store_steps.specs.Prelude.{State, need_of, IsReadNow}
 use Rattle.meta_store.specs.Store.{room_of}
-use Rattle.plan_drafts.specs.Prelude.{Plans}
+use Rattle.plan_drafts.specs.Prelude.{places_of, Plans}
 use Rattle.store_kernel.specs.declared.prepared.Prepared.{Prepared}
 
--- plain objects of the submitted rows' shape don't refuse the transaction, and this is its plan, over old bytes that its units give
+-- plain objects of the submitted rows' shape don't refuse the transaction, and this is its plan, over old bytes that were read of places of which none is bad
 pub record IsPlanOf (change : Change) (s : State) (d : Disk) (plan : Plan) : Type 0 where
   pub not_refused : IsNotRefused s.submitted (ask.Change change)
   pub plans : Plans (width_of s.log.sup) change s.submitted s.space plan
-  pub read : IsReadNow s d plan
+  pub read : IsReadNow s d (places_of change.ops plans.start) plan
 
 -- what it needs fits, and the copies are copies
 pub record IsPrepared (ready : Prepared) (change : Change) (s : State) (d : Disk) : Type 0 where

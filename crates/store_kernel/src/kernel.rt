@@ -1,4 +1,12 @@
 //! The kernel: its fields, how it begins and ends, and its steps.
+//!
+//! The two forms that the kernel keeps for the code's sake are tied to the state by one equation each, and by nothing else: the buffers
+//! to `memory_of`, and the batch's stage to the record that is begun (`KnownOfKernel`). Those of the contexts are tied in their own
+//! crate.
+//!
+//! The kernel's type keeps prefix durability as a statement over every start, and no field has the objects of the start or the history: a
+//! told log, the kernel's count of events and the objects that an image stands for determine them. It says nothing of a device that
+//! doesn't tell.
 ghost use Rattle.std.specs.Prelude.{◌≡◌, ◌≢◌, ℕ, ◌≤◌, ◌<◌, ◌^◌, nat_lt, [], true, false, None, length, OnOk, OnErr, IfOk, IfErr, IsErrOf, MatchResult};
 ghost use Rattle.std.specs.List.{list_any};
 ghost use Rattle.block_device.specs.Prelude.{Rose};

@@ -4,7 +4,7 @@ pub use Rattle.store_steps.specs.Contexts.{run_from, run_bytes, Unsent, unsent_u
 pub use Rattle.store_steps.specs.Changes.{data_sent, flush_sent, record_sent, sync_sent, first_flushed, second_flushed, written_more, after_done, after_good, down_by, flying_of, landed, reaped, commit_of, taken_up, sealed, log_after, committed_batch, acknowledged, finished}
 pub use Rattle.store_steps.specs.Ready.{is_empty, is_not_sent, pieces_of, batch_is, begun_is, applied_count, is_ready_up, is_ready_down, is_ready, all_steps, ready_steps, is_drained}
 pub use Rattle.store_steps.specs.Steps.{piece_unit, piece_bytes, DoesData, Takes, DoesReap, DoesTake, DoesFlush, DoesSeal, DoesRecord, DoesSync, DoesCommit, DoesFinish, Does}
-pub use Rattle.store_steps.specs.Submit.{need_of, free_count, entry_limit, context_of, entered, noted, accepted_with, CanNote, IsReadNow, Accepts, MeetsBadUnit, IsCause, Refuses, IsDownBy, IsBookFull}
+pub use Rattle.store_steps.specs.Submit.{need_of, free_count, entry_limit, context_of, entered, noted, accepted_with, CanNote, IsReadNow, Accepts, MeetsBadUnit, NeedsRoom, IsCause, Refuses, IsDownBy, IsBookFull}
 pub use Rattle.store_steps.specs.Intents.{Intent, intent_of, intents, names_in, is_in, plan_of, rows_by, ops_by, taken_by, released_by, needs_by, IsPlannedOver, EachIsPlanned, AreTakenApart, SpaceIsCounted, HoldsAreCounted, CanJoin}
 unfoldable pub use Rattle.store_steps.specs.Intents.{holds_in}
 pub use Rattle.store_steps.specs.Opened.{Found, opened}

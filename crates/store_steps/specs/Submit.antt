@@ -1,6 +1,5 @@
 -- What submitting a transaction does: it is accepted, or refused for a cause; either makes an entry of the book.
 use Rattle.std.specs.Prelude.{◌≡◌, ℕ, ◌+◌, ◌<◌, ◌≤◌, List, [], ◌∷◌, ◌++◌, length, map, Some, None}
-use Rattle.std.specs.List.{AllByRecursion}
 use Rattle.block_device.specs.Prelude.{Disk}
 use Rattle.block_device.specs.declared.device.Ticket.{Ticket}
 use Rattle.object_model.specs.Prelude.{Change}
@@ -11,14 +10,14 @@ use Rattle.object_model.specs.declared.command.Answer.TheVariants as answer
 use Rattle.meta_rows.specs.Prelude.{rows_after}
 use Rattle.meta_log.specs.Prelude.{unit_count, width_of}
 use Rattle.row_format.specs.Prelude.{Place}
-use Rattle.read_facts.specs.Prelude.{IsHeldAt, IsFound, IsFirstBadUnit, IsRefusedBy, IsNotRefused}
+use Rattle.read_facts.specs.Prelude.{IsHeldAt, AreGoodPlaces, IsFirstBadUnit, IsRefusedBy, IsNotRefused}
 use Rattle.plan_rows.specs.declared.plan.Plan.{Plan}
 use Rattle.unit_allocator.specs.Prelude.{Space, free_units, taken}
 use Rattle.store_steps.specs.declared.context.Context.{Context}
 use Rattle.meta_store.specs.Store.{Meta, room_of}
 use Rattle.store_steps.specs.State.{State}
 use Rattle.store_steps.specs.UnderWay.{memory_of}
-use Rattle.plan_drafts.specs.Prelude.{Plans, AsksFor}
+use Rattle.plan_drafts.specs.Prelude.{places_of, Plans, AsksFor}
 
 -- the units of the log that the record of these operations alone takes: they are as many for each number
 abbrev pub need_of : Meta → Plan → ℕ
@@ -70,17 +69,17 @@ pub record CanNote (s : State) : Type 0 where
   pub up : s.down ≡ None
   pub room : length s.book.entries < entry_limit
 
--- the old bytes that a plan was made over are what its units give: in memory, unchecked, else from the device
-abbrev pub IsReadNow : State → Disk → Plan → Type 0
-IsReadNow s d plan = AllByRecursion (λ r. IsFound (memory_of s) (IsHeldAt d) r.unit r.bytes) plan.read
+-- the old bytes that a plan was made over were read of these places: in memory, unchecked, else from the device, with the checksum that is kept
+abbrev pub IsReadNow : State → Disk → List Place → Plan → Type 0
+IsReadNow s d places plan = AreGoodPlaces (memory_of s) (IsHeldAt d) places (map (λ r. r.bytes) plan.read)
 
--- it is accepted: plain objects don't refuse it, units and room suffice
+-- it is accepted: plain objects don't refuse it, units and room suffice, and no place whose old bytes its operations ask for is bad
 pub record Accepts (client line : ℕ) (change : Change) (s : State) (d : Disk) (s' : State) : Type 0 where
   pub can_note : CanNote s
   pub not_refused : IsNotRefused s.submitted (ask.Change change)
   pub plan : Plan
   pub plans : Plans (width_of s.log.sup) change s.submitted s.space plan
-  pub read : IsReadNow s d plan
+  pub read : IsReadNow s d (places_of change.ops plans.start) plan
   pub fits : need_of s.log plan ≤ room_of s.log
   pub after : s' ≡ accepted_with client line change plan s
 
@@ -93,6 +92,13 @@ pub record MeetsBadUnit (change : Change) (s : State) (d : Disk) (unit kept foun
   pub enough : need ≤ free_count s.space
   pub first_bad : IsFirstBadUnit (memory_of s) (IsHeldAt d) places unit kept found
 
+-- units suffice for it, no place whose old bytes it asks for is bad, and the record of its plan takes so many units of the log
+pub record NeedsRoom (change : Change) (s : State) (d : Disk) (need : ℕ) : Type 0 where
+  pub plan : Plan
+  pub plans : Plans (width_of s.log.sup) change s.submitted s.space plan
+  pub read : IsReadNow s d (places_of change.ops plans.start) plan
+  pub need_is : need ≡ need_of s.log plan
+
 -- It is refused with this answer, for its cause; nothing but the book changes. Of old bytes only their checksum is a cause, which is looked at
 -- behind the free units and before the room in the log.
 abbrev pub IsCause : Answer → Change → State → Disk → Type 0
@@ -102,9 +108,7 @@ IsCause (answer.NoSpace need free) change s d =
     × ((places : List Place) × AsksFor (width_of s.log.sup) change s.submitted need places) × (free ≡ free_count s.space) × (free < need)
 IsCause (answer.Csum unit kept found) change s d = MeetsBadUnit change s d unit kept found
 IsCause (answer.MetaFull need room) change s d =
-    IsNotRefused s.submitted (ask.Change change)
-    × ((plan : Plan) × (Plans (width_of s.log.sup) change s.submitted s.space plan × (need ≡ need_of s.log plan) × IsReadNow s d plan))
-    × (room ≡ room_of s.log) × (room < need)
+    IsNotRefused s.submitted (ask.Change change) × NeedsRoom change s d need × (room ≡ room_of s.log) × (room < need)
 IsCause a change s d = ⊥
 
 pub record Refuses (client line : ℕ) (change : Change) (a : Answer) (s : State) (d : Disk) (s' : State) : Type 0 where

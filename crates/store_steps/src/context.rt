@@ -1,4 +1,7 @@
 //! Contexts: accepted transactions on their way to the log.
+//!
+//! A context counts the units that were given to the device and those that have reached it, and not its writes, so that where its runs
+//! begin is a function of that count.
 
 use byte_maps::Items;
 use meta_rows::RowOp;

@@ -3,6 +3,8 @@
 //! in these words.
 //!
 //! In Ceph's BlueStore a context is a `TransContext`, and the steps are the parts of its state machine.
+//!
+//! Proved: the table of steps, `Does`, `Accepts`, `Refuses`, runs of calls, footprints.
 #![tactic(auto)]
 
 mod context;

@@ -1,6 +1,9 @@
 //! A transaction in bytes: its one spelling, and what bytes spell.
 //!
 //! In Ceph this is the encoding of `ObjectStore::Transaction`.
+//!
+//! Proved: `encode` gives the transaction's one spelling; `decode` gives the transaction with which bytes begin and how many are used,
+//! and None exactly where they begin with none; no spelling begins another.
 #![tactic(auto)]
 
 mod codes;

@@ -203,9 +203,11 @@ module _ (w : Width) (change : Change) (rows : Rows) (space : Space) (draft : Dr
     held_are = m.held ∙ planned.held read at.whole ∙ ap (λ ops. held_by read ops start none_held) (all_taken change.ops)
         ∙ ap (λ r. held_by r change.ops start none_held) (sym m.read_is)
 
+    places_are : places_in draft ≡ places_of change.ops start
+    places_are = planned.places ∙ ap (λ ops. places_of ops start) (all_taken change.ops)
+
     read_there : AreReadAt (places_of change.ops start) plan.read
-    read_there = subst (AreReadAt (places_of change.ops start)) (sym m.read_is)
-        (subst (λ ps. AreReadAt ps read) (planned.places ∙ ap (λ ops. places_of ops start) (all_taken change.ops)) at)
+    read_there = subst (AreReadAt (places_of change.ops start)) (sym m.read_is) (subst (λ ps. AreReadAt ps read) places_are at)
 
     module _ (s : Super) (wide : width_of s ≡ w) (free : AreFreeOver s rows space) where
       -- a free unit is owned by nobody, so no page stands on one
@@ -233,7 +235,7 @@ module _ (w : Width) (change : Change) (rows : Rows) (space : Space) (draft : Dr
         turns = m.ops.turns;
       }
 
-      plans_so : Plans w change rows space plan
+      abbrev plans_so : Plans w change rows space plan
       plans_so = record {
         named = is.coll;
         small = is.small;
@@ -248,5 +250,5 @@ module _ (w : Width) (change : Change) (rows : Rows) (space : Space) (draft : Dr
         csums_fit = m.csums;
       }
 
-    pub is_plan : IsPlanFor w change rows space plan
-    is_plan = record { not_refused = is.not_refused; plans = plans_so }
+    pub is_plan : IsPlanFor w change rows space (places_in draft) plan
+    is_plan = record { not_refused = is.not_refused; plans = λ s wide free. (plans_so s wide free, places_are) }

@@ -12,7 +12,7 @@ use Rattle.plan_rows.specs.declared.plan.Plan.{Plan}
 use Rattle.unit_allocator.specs.Prelude.{Space}
 use Rattle.unit_allocator.specs.declared.allocator.TakeFail.{TakeFail}
 use Rattle.unit_allocator.specs.declared.allocator.TakeFail.TheVariants as take
-use Rattle.plan_drafts.specs.Prelude.{AreFreeOver, Plans, AsksFor}
+use Rattle.plan_drafts.specs.Prelude.{places_of, AreFreeOver, Plans, AsksFor}
 use Rattle.store_steps.specs.Prelude.{free_count}
 use Rattle.txn_planner.specs.declared.fails.PlanFail.{PlanFail}
 use Rattle.txn_planner.specs.declared.fails.PlanFail.TheVariants as fail
@@ -22,11 +22,12 @@ abbrev pub fail_of : TakeFail → PlanFail
 fail_of (take.NoSpace need free) = fail.NoSpace need free
 fail_of take.Memory = fail.Memory
 
--- Plain objects of the rows' shape don't refuse the transaction. This is its plan where no row is bad and the free units are owned by nobody: then
--- its operations are the difference of the rows.
-pub record IsPlanFor (w : Width) (change : Change) (rows : Rows) (space : Space) (plan : Plan) : Type 0 where
+-- Plain objects of the rows' shape don't refuse the transaction. This is its plan, over the old bytes of these places, where no row is bad and the
+-- free units are owned by nobody: then its operations are the difference of the rows.
+pub record IsPlanFor (w : Width) (change : Change) (rows : Rows) (space : Space) (places : List Place) (plan : Plan) : Type 0 where
   pub not_refused : IsNotRefused rows (ask.Change change)
-  pub plans : (s : Super) → width_of s ≡ w → AreFreeOver s rows space → Plans w change rows space plan
+  pub plans : (s : Super) → width_of s ≡ w → AreFreeOver s rows space
+      → (plans : Plans w change rows space plan) × (places ≡ places_of change.ops plans.start)
 
 -- why there is no plan; want of memory comes of nothing that a clause sees
 abbrev pub IsPlanFail : Width → Change → Rows → Space → PlanFail → Type 0

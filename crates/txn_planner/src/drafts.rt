@@ -57,7 +57,7 @@ impl Draft {
         requires good { AreRowsOfWidth width rows.now.rows }
         requires draft { IsDraftFor width txn.now rows.now.rows space.now self }
         requires read { AreReadAt (places_in self) read }
-        ensures ok { IfOk result (IsPlanFor width txn.now rows.now.rows space.now) }
+        ensures ok { IfOk result (IsPlanFor width txn.now rows.now.rows space.now (places_in self)) }
         ensures read { IfOk result (λ plan. plan.read ≡ read) }
     {
         let Draft { planning, units } = self;

@@ -1,4 +1,8 @@
 //! The row operations of a plan, from the changes of rows and the units that are taken and released.
+//!
+//! Of an object that isn't what it was, the changes have its shards, each that was there and in whose place none comes, as gone, and its
+//! onode where its size is another one; they have the row of the collection where an operation is on that. The other rows are as they
+//! were, and needn't be compared. An object's onode and its shards are read by one range of rows: its own key is the front of theirs.
 ghost use Rattle.std.specs.Prelude.{map, IfOk};
 ghost use Rattle.txn_planner.specs.Finishing.{AreRowOps};
 

@@ -6,6 +6,12 @@
 //!
 //! In Ceph's BlueStore this is the work of `_txc_add_transaction` on onodes that it changes as it goes, of `_txc_write_nodes` and of
 //! `_txc_finalize_kv`. An operation that fails there has the process end; here the transaction is refused and nothing was changed.
+//!
+//! Proved: where no row is bad and nobody owns the free units, a transaction is turned into exactly such a plan, on the lowest free units
+//! by the order of its takings, with each object's extents in their one form of longest runs, cut at 256 pages; or the answer is exactly
+//! the refusal that plain objects of the rows' shape give, or NoSpace with both numbers, which comes exactly where its operations take
+//! more units one after the other than are free. The draft before it names the places whose old bytes it needs, and the plan has just
+//! those that it was given.
 #![tactic(auto)]
 
 mod drafts;

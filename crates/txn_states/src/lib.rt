@@ -3,6 +3,9 @@
 //!
 //! They stand in the place of the states of a `TransContext` in Ceph's BlueStore: `Prepared` is STATE_PREPARE, `Waiting` STATE_AIO_WAIT,
 //! `Queued` STATE_KV_QUEUED, `Committed` STATE_KV_DONE, `DeferredWait` STATE_DEFERRED_QUEUED, `Finished` STATE_DONE.
+//!
+//! Proved: each call gives what the definitions of contexts give; `next_write` is the next run of units; a transaction is queued only
+//! when all its writes have ended.
 #![tactic(auto)]
 
 mod committed;

@@ -1,4 +1,8 @@
 //! The free units of a range, by a bit for each.
+//!
+//! The allocator keeps two bits for each unit, idle and free, with a summary above the free ones (a bit for each word of 64 that isn't
+//! zero), and counts of holds for the units that are held alone, since these are few. So `hold` may want memory, and everything else
+//! takes none. A clause sees it as before: each unit idle or not, and how many hold it.
 ghost use Rattle.std.specs.Prelude.{◌≡◌, ◌≢◌, ◌↔◌, ℕ, ◌+◌, ◌-◌, ◌*◌, ◌<◌, ◌≤◌, ◌^◌, ◌++◌, ◌∷◌, [], true, false, length, replicate, take, MatchOption, IfOk, IfErr, OnOk, OnErr, IsTrue, vec_len, vec_capacity};
 ghost use Rattle.std.specs.List.{range_with_len};
 ghost use Rattle.unit_allocator.specs.Units.{free_units, is_free, holds_of, IsWithin, taken_one, given_one, taken, given, held, unheld, units_of, units_of_run, no_idle_units, freed_from};

@@ -1,6 +1,9 @@
 //! Which units of a range are free: those that nobody was given and nobody holds.
 //!
 //! It stands in the place of Ceph's `Allocator` over the free space of BlueStore's device, and gives the lowest free units first.
+//!
+//! Proved: `take` gives the lowest free units, and NoSpace exactly where they are too few, with both numbers; a unit that is given back
+//! is free unless somebody holds it.
 #![tactic(auto)]
 
 mod allocator;

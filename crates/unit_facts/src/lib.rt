@@ -1,5 +1,7 @@
 //! What is known of a device that tells its log, from one call of the kernel to the next: its slots, the active half of its log, and
 //! the units that transactions under way have taken.
+//!
+//! Proved: each call keeps it; once drained no unit is dirty.
 #![tactic(auto)]
 
 mod laws;

@@ -1,5 +1,7 @@
 //! The words of the store's outside: units by number and sets of them, names, the limits, the width of
 //! checksums, and the fields that values and keys are made of.
+//!
+//! Proved: a field read is the number of its bytes and leaves the rest; `read` of a name is None exactly where the bytes are none.
 #![tactic(auto)]
 
 mod coll_name;

@@ -1,4 +1,12 @@
 //! The transactions whose data writes are under way.
+//!
+//! A transaction's state is a type, so that none is committed whose writes haven't ended. Contexts stand by place in a map, the newest
+//! beside it, their collections' turns in sequencers under the names, the places with unsent writes in a queue, and those that a batch
+//! may take in a heap: so no call searches what waits. Where one transaction waits at a time, as with a client that waits for each, the
+//! map isn't touched. A collection's sequencer stays for the mount once it had a context, as a loaded collection of Ceph keeps its own:
+//! making and dropping one with each transaction cost more than all look-ups. Room in the heap is made when a context comes, and no end
+//! of a write takes memory. The parts are crates of their own (`txn_states`, `op_sequencer`, `waiting_contexts`, `kv_worker`), so that
+//! the kernel's proof has their clauses and not their bodies.
 ghost use Rattle.std.specs.Prelude.{◌≡◌, ℕ, ◌+◌, ◌==◌, ◌<◌, ◌≤◌, ◌++◌, ◌∷◌, List, [], true, false, is_some, length, option_copied, Some, IfOk, IfErr, IfSome, OnOk, OnErr, if◌then◌else◌};
 ghost use Rattle.std.specs.Option.{option_map_or};
 ghost use Rattle.store_steps.specs.Prelude.{chosen, next_unsent, with_context, without_context, given_more, done_more};

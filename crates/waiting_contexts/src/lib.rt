@@ -1,4 +1,9 @@
 //! The transactions whose data writes are under way, any number of them. No call goes over all that wait.
+//!
+//! Proved: `Contexts` is any number of them: the next data write is the one of the definitions, a change of one leaves the others, and
+//! what a batch may take is the one that the definitions choose, the first whose writes have all ended and before which none of its
+//! collection waits; a call that memory fails leaves all as it was, and but for `push` and the bytes of a write none takes memory. Maps
+//! by place and by name, queues and a heap stand for searches; that no call takes time in proportion to how many wait is no clause.
 #![tactic(auto)]
 
 mod by_place;

@@ -6,19 +6,21 @@ ghost use Rattle.object_model.specs.declared.command.Answer.{Answer};
 ghost use Rattle.read_facts.specs.Prelude.{IsHeldAt, IsKnownRead, HasReadNames, IsAnswerOf};
 ghost use Rattle.store_steps.specs.Prelude.{AnswersRead, CanNote, memory_of};
 ghost use Rattle.store_kernel.specs.Reading.{UnansweredBy, IsDeviceRead};
+ghost use Rattle.store_kernel.specs.ToRead.{AskNeedsDevice};
 
 use super::Kernel;
 use crate::unanswered::Unanswered;
 use block_device::Device;
-use object_model::{Answer, Command, Entry};
+use object_model::{Answer, Asked, Command, Entry};
 use object_reader::{ReadFail, answer};
 use std::alloc::Global;
 use unit_fields::limits::BOOK_LIMIT;
 
 impl<D: Device> Kernel<D> {
-    /// Answers a command that reads: bytes of an object, their checksum, its size, or the names of a collection's objects. The answer, also
-    /// a refusal or a bad unit, is in the book's entry at the place that comes back. A kernel that is down, or whose book is full, and a
-    /// read that the device or memory fails, leave no entry; the command comes back then. A read sees every transaction that was accepted.
+    /// Answers a command that reads: bytes of an object, their checksum, its size, an attribute, a key's value or the header of its omap,
+    /// or the names of a collection's objects. The answer, also a refusal or a bad unit, is in the book's entry at the place that comes
+    /// back. A kernel that is down, or whose book is full, and a read that the device or memory fails, leave no entry; the command comes
+    /// back then. A read sees every transaction that was accepted.
     pub fn ask(
         &mut self,
         alloc: Global,
@@ -60,6 +62,7 @@ impl<D: Device> Kernel<D> {
         ensures names { HasReadNames command.now }
         ensures ok { IfOk result (IsAnswerOf (width_of self.old.state.log.sup) (memory_of self.old.state) (IsHeldAt (D.disk self.old.device))
             self.old.state.submitted command.now) }
+        ensures fault { IsErrOf result ReadFail.Fault → AskNeedsDevice command.now self.old.state }
         ensures same { self.new.state ≡ self.old.state }
         ensures disk { D.disk self.new.device ≡ D.disk self.old.device }
         ensures later { D.faults self.old.device ≤ D.faults self.new.device }
@@ -76,7 +79,7 @@ impl<D: Device> Kernel<D> {
         )
     }
 
-    // Makes an entry of the book. The command comes back where there is no room for it.
+    // Makes an entry of the book, and drops the command. It comes back where there is no room for the entry.
     fn enter(
         &mut self,
         client: u32,
@@ -102,7 +105,7 @@ impl<D: Device> Kernel<D> {
         self.entries.push_reserved(Entry {
             client,
             line,
-            command,
+            command: Asked::new(command),
             answer,
             acks: self.acked,
         });

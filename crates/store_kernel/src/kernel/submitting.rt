@@ -14,7 +14,7 @@ use crate::refused::{Cause, Refused};
 use crate::space::take_fresh;
 use block_device::Device;
 use byte_maps::Duplicate;
-use object_model::{Answer, Command, Entry, Transaction};
+use object_model::{Answer, Asked, Command, Entry, Transaction};
 use page_sources::read_places;
 use std::alloc::Global;
 use store_steps::Plan;
@@ -22,9 +22,10 @@ use txn_planner::begin;
 use unit_fields::limits::BOOK_LIMIT;
 
 impl<D: Device> Kernel<D> {
-    /// Accepts a transaction, or refuses it for a cause. Either makes an entry of the book, into which the transaction is moved;
-    /// an accepted one is committed by the steps that follow. A kernel that is down, or whose book is full, turns it away without
-    /// an entry, and a read that the device fails leaves none. For now each of its operations may be any but a clone.
+    /// Accepts a transaction, or refuses it for a cause. Either makes an entry of the book, whose clauses see the transaction, and which
+    /// keeps of it that it is one: what it holds goes now, but for the bytes that the writes of an accepted one share until they are
+    /// committed by the steps that follow. A kernel that is down, or whose book is full, turns it away without an entry, and a read
+    /// that the device fails leaves none. For now each of its operations may be any but a clone.
     ///
     /// Of pages that change in part the old bytes are read, once the transaction is known to be taken and units suffice for it:
     /// from memory where an accepted transaction isn't committed yet, and else from the device, with their checksum.
@@ -146,7 +147,7 @@ impl<D: Device> Kernel<D> {
         self.entries.push_reserved(Entry {
             client,
             line,
-            command: Command::Change(txn),
+            command: Asked::new(Command::Change(txn)),
             answer: Answer::Accepted,
             acks: self.acked,
         });
@@ -216,7 +217,7 @@ impl<D: Device> Kernel<D> {
         self.entries.push_reserved(Entry {
             client,
             line,
-            command: Command::Change(txn),
+            command: Asked::new(Command::Change(txn)),
             answer,
             acks: self.acked,
         });

@@ -25,7 +25,8 @@ returns-in-Err-clause-prints g c =
       dumps = inl (
         failed,
         refl,
-        rw c.unmounted.ensures (left_by_mount c.in-Err.fail given (g.D.Device.disk c.in-Err.dev) c.in-Err.ensures.same c.in-Err.ensures.back),
+        rw c.unmounted.ensures (left_by_mount c.in-Err.fail given (g.D.Device.disk c.in-Err.dev) c.in-Err.ensures.same c.in-Err.ensures.writes
+            c.in-Err.ensures.back),
       );
       shows = λ sound fresh. unmounted_shows c.unmounted.result given before now [] failed refl;
       printed = no_walk c.args.text.now _;

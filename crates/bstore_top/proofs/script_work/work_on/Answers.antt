@@ -1,5 +1,6 @@
 use Rattle.std.proofs.Common.{inl, inr}
 use Rattle.bstore_top.proofs.WorkLemmas.{left_by_mount, works_mounted, run_counted, later_ran}
+use Rattle.bstore_top.proofs.RunLaws.{runs_and_keeps}
 use Rattle.bstore_top.proofs.Keeping.{ran_keeps, failed_keeps, mount_failed}
 use Rattle.bstore_top.proofs.script_work.work_on.Goals as goal
 
@@ -9,10 +10,10 @@ returns-clause-works g c =
     rw c.ended-end.ensures (inr (
       run_counted c.run_scripts-ran.result c.free_units.result _ _ _ _ c.run_scripts-ran.ensures.cause c.run_scripts-ran.ensures.read_cause
           c.in-Ok.ensures.later c.unmount-dev.ensures.later,
-      (works_mounted _ _ _ c.in-Ok.ensures.ok.0 c.in-Ok.ensures.ok.1.0 _ _ _ _ _ _
+      runs_and_keeps _ _ _ _ _ _ (works_mounted _ _ _ c.in-Ok.ensures.ok.0 c.in-Ok.ensures.ok.1.0 _ _ _ _ _ _
           (record { mounted = c.in-Ok.ensures.ok.1.1; kept = c.facts.ensures.kept; durable = c.facts.ensures.durable })
           (record { closed = reaped.0; reaped = reaped.1.0; book_is = reaped.1.1; same = c.unmount-dev.ensures.book })
-          c.run_scripts-ran.result c.free_units.result c.run_scripts-ran.ensures.ran c.free_units.ensures).ran,
+          c.run_scripts-ran.result c.free_units.result c.run_scripts-ran.ensures.ran c.free_units.ensures),
     ))
 
 pub returns-clause-later : goal.returns-clause-later
@@ -36,7 +37,8 @@ returns-in-Err-clause-works g c =
     inl (
       mount_failed c.in-Err.fail c.unmounted.result given before now c.unmounted.ensures c.in-Err.ensures.fails,
       c.new.ensures.empty,
-      rw c.unmounted.ensures (left_by_mount c.in-Err.fail given (g.D.Device.disk c.in-Err.dev) c.in-Err.ensures.same c.in-Err.ensures.back),
+      rw c.unmounted.ensures (left_by_mount c.in-Err.fail given (g.D.Device.disk c.in-Err.dev) c.in-Err.ensures.same c.in-Err.ensures.writes
+          c.in-Err.ensures.back),
     )
 
 pub returns-in-Err-clause-keeps : goal.returns-in-Err-clause-keeps

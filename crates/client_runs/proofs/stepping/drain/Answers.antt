@@ -32,4 +32,4 @@ returns-in_err-made-in-Some-Step-clause-ran g c =
     (given [] [] _ _ _ _ _ refl c.in-Some-Step.field-0-is c.in-Some-Step.ensures)
     c.facts-in-Some-Step.ensures.kept.always.device
     (λ is. let bad = c.in_err-made-in-Some-Step.ensures.fault (ap (λ (e : StepFail). Err e) is) in (bad.0, bad.1))
-    (λ is. let same = c.in_err-made-in-Some-Step.ensures.memory (ap (λ (e : StepFail). Err e) is) in (same.1, same.2)))
+    (λ is. c.in_err-made-in-Some-Step.ensures.memory (ap (λ (e : StepFail). Err e) is)))

@@ -9,6 +9,6 @@ returns-in_default g c = record {
       c.step-made.ensures.ok c.facts-in_default.ensures.kept.always.device c.in_default.not-Finish;
   left = refl;
   fault = c.step-made.ensures.fault;
-  memory = λ is. let same = c.step-made.ensures.memory is in (same.1, same.2);
+  memory = c.step-made.ensures.memory;
   later = c.step-made.ensures.later;
 }

@@ -1,10 +1,10 @@
-use Rattle.std.proofs.Common.{IfOk, sym, subst}
-use Rattle.std.proofs.lemmas.Result.{IfOk-weaker}
+use Rattle.std.proofs.Common.{IfOk, IfErr, inl, inr, sym, subst}
+use Rattle.std.proofs.lemmas.Result.{IfOk-weaker, IfErr-weaker}
 use Rattle.block_device.specs.Prelude.{Disk}
 use Rattle.unit_allocator.specs.Prelude.{Space}
 use Rattle.store_steps.specs.Prelude.{Found}
 use Rattle.log_replay.specs.Prelude.{as_found, IsLater}
-use Rattle.mount_replay.specs.Mounting.{IsOpenedOn, StaysDurable}
+use Rattle.mount_replay.specs.Mounting.{IsOpenedOn, BeganToClear, LeftUnopened, StaysDurable}
 use Rattle.log_replay.proofs.ZeroLemmas.{later_same}
 use Rattle.mount_replay.proofs.MountLemmas.{stays_same, refused_fails}
 use Rattle.mount_replay.proofs.mounting.mount.Goals as goal
@@ -37,6 +37,12 @@ pub returns-in_default-clause-durable : goal.returns-in_default-clause-durable
 returns-in_default-clause-durable g c =
     let old = g.D.Device.disk c.args.dev in
     subst (λ (d : Disk). StaysDurable old d) (sym c.find_store.ensures.same) (stays_same old c.find_store.ensures.sound)
+
+pub returns-clause-writes : goal.returns-clause-writes
+returns-clause-writes g c =
+    let disk = g.D.Device.disk in
+    let began = subst (λ (d : Disk). IfErr c.open_on.result (λ e. BeganToClear d (disk e.1))) c.find_store.ensures.same c.open_on.ensures.writes in
+    IfErr-weaker c.open_on.result (λ e. BeganToClear (disk c.args.dev) (disk e.1)) (λ e. LeftUnopened (disk c.args.dev) (disk e.1)) (λ e is. inr is) began
 
 pub returns-clause-ok : goal.returns-clause-ok
 returns-clause-ok g c =

@@ -16,6 +16,17 @@ returns-in-Err-clause-durable g c =
     stays_begun c.args.found (disk c.args.dev) c.requires.sound c.requires.found c.requires.judged.good (disk c.clear_log.new.dev)
     (c.in-Err.ensures.only c.requires.found.half c.requires.found.stale)
 
+pub returns-in-Err-clause-writes : goal.returns-in-Err-clause-writes
+returns-in-Err-clause-writes g c = record {
+  found = as_found c.args.found;
+  good = c.requires.judged.good;
+  units = c.requires.found.units_are;
+  tail = c.requires.found.tail;
+  half = c.requires.found.half;
+  about = c.requires.found.about;
+  told = c.in-Err.ensures.only c.requires.found.half c.requires.found.stale;
+}
+
 pub open-requires-clause-kept : goal.open-requires-clause-kept
 open-requires-clause-kept g c =
     let disk = g.D.Device.disk in

@@ -22,7 +22,8 @@ returns-in_err-read_units-in-Units-clause-fail g c =
     handed_on (IsPartFail (memory_in c.args.buffers.now) d pages first (c.args.end - first)) c.from_residual-in_err-read_units-in-Units.result why
     c.from_residual-in_err-read_units-in-Units.ensures
     (fails_of_more (memory_in c.args.buffers.now) d pages first count (c.args.end - first) why (omega (arith, c.in-Units.ensures.run.1))
-    (units_fail (memory_in c.args.buffers.now) d pages first c.in-Units.at count c.run_from.new.sums why c.in-Units.ensures.run.2 c.in-Units.ensures.run.3 c.in_err-read_units-in-Units.ensures.fail))
+    (units_fail (memory_in c.args.buffers.now) d pages first c.in-Units.at count c.run_from.new.sums why c.in-Units.ensures.run.2 c.in-Units.ensures.run.3 c.in-Units.ensures.run.0
+    c.in_err-read_units-in-Units.ensures.fail))
 
 pub returns-in_ok-lay_zeros-in-Hole-clause-good : goal.returns-in_ok-lay_zeros-in-Hole-clause-good
 returns-in_ok-lay_zeros-in-Hole-clause-good g c =

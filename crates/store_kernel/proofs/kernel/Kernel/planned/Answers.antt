@@ -1,6 +1,5 @@
-use Rattle.std.proofs.Common.{sym, subst}
 use Rattle.write_buffers.specs.Prelude.{memory_in}
-use Rattle.page_sources.specs.Prelude.{CanReadPlaces, IsPlacesFail}
+use Rattle.txn_planner.specs.Drafts.{places_in}
 use Rattle.store_kernel.specs.Submitting.{cause_of_plan, cause_of_read, IsCauseOf}
 use Rattle.store_kernel.proofs.Admitting.{rows_of_width, given, planned_keeps, planned_short, no_draft, not_read, handed_on}
 use Rattle.store_kernel.proofs.Reading.{can_read_places}
@@ -46,22 +45,23 @@ finish-requires-clause-good g c =
 pub returns-clause-ok : goal.returns-clause-ok
 returns-clause-ok g c =
     let can = rw (← c.self.view_is) at c.requires.can_note in
-    rw (← c.self.view_is) (given _ (g.D.Device.disk c.self.inside.device) c.args.txn.now c.in_ok-plan.plan (memory_in c.self.inside.buffers) c.in_ok-read.read
+    rw (← c.self.view_is) (given _ (g.D.Device.disk c.self.inside.device) c.args.txn.now c.in_ok-plan.plan (memory_in c.self.inside.buffers) (places_in c.in_ok-draft.draft)
+    c.in_ok-read.read
     c.self.invariant.kept can c.self.invariant.memory (rw (c.width-width.ensures) at c.in_ok-plan.ensures.ok) c.in_ok-plan.ensures.read
-    c.in_ok-read.ensures.found)
+    (rw (c.places.ensures) at c.in_ok-read.ensures.good))
 
 pub returns-clause-fit : goal.returns-clause-fit
 returns-clause-fit g c =
     let can = rw (← c.self.view_is) at c.requires.can_note in
     let disk = g.D.Device.disk c.self.inside.device in
     (planned_keeps _ disk c.args.txn.now c.in_ok-plan.plan c.self.invariant.kept can c.requires.known
-    (given _ disk c.args.txn.now c.in_ok-plan.plan (memory_in c.self.inside.buffers) c.in_ok-read.read c.self.invariant.kept can c.self.invariant.memory
-    (rw (c.width-width.ensures) at c.in_ok-plan.ensures.ok) c.in_ok-plan.ensures.read c.in_ok-read.ensures.found)).fit
+    (given _ disk c.args.txn.now c.in_ok-plan.plan (memory_in c.self.inside.buffers) (places_in c.in_ok-draft.draft) c.in_ok-read.read c.self.invariant.kept can c.self.invariant.memory
+    (rw (c.width-width.ensures) at c.in_ok-plan.ensures.ok) c.in_ok-plan.ensures.read (rw (c.places.ensures) at c.in_ok-read.ensures.good))).fit
 
 pub returns-clause-short : goal.returns-clause-short
 returns-clause-short g c =
     let can = rw (← c.self.view_is) at c.requires.can_note in
     let disk = g.D.Device.disk c.self.inside.device in
     planned_short _ disk c.args.txn.now c.in_ok-plan.plan c.self.invariant.kept can
-    (given _ disk c.args.txn.now c.in_ok-plan.plan (memory_in c.self.inside.buffers) c.in_ok-read.read c.self.invariant.kept can c.self.invariant.memory
-    (rw (c.width-width.ensures) at c.in_ok-plan.ensures.ok) c.in_ok-plan.ensures.read c.in_ok-read.ensures.found)
+    (given _ disk c.args.txn.now c.in_ok-plan.plan (memory_in c.self.inside.buffers) (places_in c.in_ok-draft.draft) c.in_ok-read.read c.self.invariant.kept can c.self.invariant.memory
+    (rw (c.width-width.ensures) at c.in_ok-plan.ensures.ok) c.in_ok-plan.ensures.read (rw (c.places.ensures) at c.in_ok-read.ensures.good))

@@ -1,4 +1,4 @@
-use Rattle.std.proofs.Common.{◌≡◌, ap, ◌∙◌}
+use Rattle.std.proofs.Common.{ap, ◌∙◌}
 use Rattle.meta_store.specs.Store.{room_of}
 use Rattle.store_steps.specs.Prelude.{State}
 use Rattle.store_kernel.proofs.Admitting.{enough}
@@ -12,7 +12,7 @@ returns-then-room-need-clause-err g c =
     let same = rw (← c.self.view_is) at c.in_ok-plan.ensures.same in
     let room = c.room-room.ensures ∙ ap (λ (s : State). room_of s.log) same in (
       planned.not_refused,
-      (c.in_ok-plan.plan, (planned.plans, need log.number, planned.read)),
+      record { plan = c.in_ok-plan.plan; plans = planned.plans; read = planned.read; need_is = need log.number },
       room,
       c.if-room-need.true,
     )

@@ -1,0 +1,6 @@
+use Rattle.std.proofs.Common.{◌≡◌, ◌++◌, map, take}
+use Rattle.findings.specs.declared.finding.Finding.TheVariants.{Leaked}
+use Rattle.fsck_check.proofs.checking.push_leaked.Given as goal
+
+abbrev pub invariant-loop-unit : goal.invariant-loop-unit
+invariant-loop-unit l = l.found.items ≡ l.initial.found.items ++ map Leaked (take l.unit-index l.units)

@@ -1,0 +1,70 @@
+-- The units on which pages stand, compared one behind the other with the checksums that are kept for the pages.
+use Rattle.std.specs.Prelude.{◌≡◌, ◌≢◌, ◌⊎◌, ℕ, ◌+◌, ◌<◌, List, [], ◌∷◌, ◌++◌, length, map}
+use Rattle.std.specs.List.{flat_map}
+use Rattle.byte_maps.specs.Units.{unit_at}
+use Rattle.unit_fields.specs.declared.width.Width.{Width}
+use Rattle.crc32c_csum.specs.Prelude.{crc32c}
+use Rattle.meta_rows.specs.Prelude.{Rows}
+use Rattle.row_format.specs.Prelude.{Body, private, Extent}
+use Rattle.row_format.specs.Row as format
+use Rattle.row_reading.specs.Reading.{SpellsRow}
+use Rattle.findings.specs.declared.finding.Finding.{Finding}
+use Rattle.findings.specs.declared.finding.Finding.TheVariants.{BadSum}
+use Rattle.findings.specs.Findings.{PageSum, AreBadSums, bad_sum}
+
+-- the unit of a page, and the checksum that is kept for it
+abbrev pub UnitSum : Type 0
+UnitSum = ℕ × ℕ
+
+-- consecutive units with these checksums
+abbrev pub places_from : ℕ → List ℕ → List UnitSum
+places_from unit [] = []
+places_from unit (csum ∷ csums) = (unit, csum) ∷ places_from (unit + 1) csums
+
+abbrev pub body_places : Body → List UnitSum
+body_places (private unit csums) = places_from unit csums
+
+abbrev pub extent_places : Extent → List UnitSum
+extent_places e = body_places e.body
+
+abbrev pub shard_places : List Extent → List UnitSum
+shard_places es = flat_map extent_places es
+
+-- the places of a row, if it is a shard
+abbrev pub row_places : format.Row → List UnitSum
+row_places (format.shard c o page es) = shard_places es
+row_places _ = []
+
+-- the unit holds bytes with the checksum
+abbrev pub HasSum : (ℕ → List ℕ → Type 0) → UnitSum → Type 0
+HasSum held p = (bytes : List ℕ) × (held p.0 bytes × (crc32c bytes ≡ p.1))
+
+-- it holds bytes with another one
+pub record HasOther (held : ℕ → List ℕ → Type 0) (p : UnitSum) (found : ℕ) : Type 0 where
+  pub bytes : List ℕ
+  pub size : length bytes ≡ 4096
+  pub holds : held p.0 bytes
+  pub is_found : found ≡ crc32c bytes
+  pub differs : found ≢ p.1
+
+-- a finding for each of these units that holds bytes with another checksum, in their order; each other one holds bytes with its own
+abbrev pub AreSums : (ℕ → List ℕ → Type 0) → List UnitSum → List Finding → Type 0
+AreSums held [] out = out ≡ []
+AreSums held (p ∷ ps) out = (HasSum held p × AreSums held ps out)
+    ⊎ ((found : ℕ) × (rest : List Finding) × (out ≡ BadSum p.0 p.1 found ∷ rest) × HasOther held p found × AreSums held ps rest)
+
+-- these were added to others
+abbrev pub AddsSums : (ℕ → List ℕ → Type 0) → List UnitSum → List Finding → List Finding → Type 0
+AddsSums held places old new = (out : List Finding) × (new ≡ old ++ out) × AreSums held places out
+
+-- so were those of the row that a key and a value spell
+abbrev pub AddsRowSums : Width → (ℕ → List ℕ → Type 0) → List ℕ → List ℕ → List Finding → List Finding → Type 0
+AddsRowSums w held key value old new = (row : format.Row) → SpellsRow w key value row → AddsSums held (row_places row) old new
+
+-- so many units from one on hold these bytes, one behind the other
+abbrev pub IsIn : ℕ → ℕ → List ℕ → ℕ → List ℕ → Type 0
+IsIn at count bytes unit b = (i : ℕ) × (i < count) × (unit ≡ at + i) × (b ≡ unit_at i bytes) × (length b ≡ 4096)
+
+-- these are the findings of bad pages
+abbrev pub FindsSums : Width → (ℕ → List ℕ → Type 0) → Rows → List Finding → Type 0
+FindsSums w held rows found = (pages : List PageSum) × AreBadSums w held rows pages × (found ≡ map bad_sum pages)

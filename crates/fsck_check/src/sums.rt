@@ -1,0 +1,215 @@
+//! The bytes of the units on which pages stand, compared with the checksums that are kept for the pages.
+ghost use Rattle.std.specs.Prelude.{◌≡◌, ◌+◌, ◌*◌, ◌<◌, ◌≤◌, ◌^◌, [], length, IfOk, OnOk, IsErrOf};
+ghost use Rattle.byte_maps.specs.Units.{IsUnits, unit_at};
+ghost use Rattle.block_device.specs.Prelude.{Rose};
+ghost use Rattle.meta_log.specs.Prelude.{IsSuper, width_of};
+ghost use Rattle.row_format.specs.Prelude.{Extent};
+ghost use Rattle.store_image.specs.Prelude.{NoBadRow};
+ghost use Rattle.read_facts.specs.Prelude.{IsHeldAt};
+ghost use Rattle.row_check.specs.Marks.{EndsBy, AllEndBy};
+ghost use Rattle.row_check.specs.Owned.{SpellsRowWithin};
+ghost use Rattle.fsck_check.specs.Sums.{IsIn, places_from, extent_places, shard_places, AddsSums, AddsRowSums, FindsSums};
+
+use block_device::{Device, Failed};
+use byte_maps::Items;
+use crc32c_csum::crc32c;
+use findings::Finding;
+use meta_log::Super;
+use meta_rows::RowTable;
+use onode_codec::{Body, Extent, decode_extents};
+use row_check::is_shard;
+use std::alloc::{AllocError, Global};
+use unit_fields::Width;
+use unit_fields::limits::UNIT_BYTES;
+
+// The most units of one read.
+const MOST_UNITS: usize = 64;
+
+fn unit_of(bytes: &[u8], i: usize) -> &[u8]
+    requires { 4096 * i + 4096 ≤ length bytes.now }
+    ensures { result.now ≡ unit_at i bytes.now }
+{
+    &bytes[UNIT_BYTES * i..UNIT_BYTES * i + UNIT_BYTES]
+}
+
+// Compares the bytes of consecutive units with the checksums that are kept for them, and adds a finding for each unit with another one.
+fn compare(
+    at: u32,
+    kept: &[u32],
+    bytes: &[u8],
+    found: &mut Items<Finding>,
+) -> Result<(), AllocError>
+    requires whole { IsUnits (length kept.now) bytes.now }
+    requires fits { at + length kept.now ≤ 2 ^ 32 }
+    ensures { OnOk result (AddsSums (IsIn at (length kept.now) bytes.now) (places_from at kept.now) found.old found.new) }
+{
+    for i in 0..kept.len() {
+        let sum = crc32c(unit_of(bytes, i));
+        let own = kept[i];
+        if sum != own {
+            let unit = at + i as u32;
+            found.push(Finding::BadSum {
+                unit,
+                kept: own,
+                found: sum,
+            })?;
+        }
+    }
+    Ok(())
+}
+
+// Reads consecutive units and compares their bytes.
+fn check_run<D: Device>(
+    dev: &mut D,
+    at: u32,
+    kept: &[u32],
+    buffer: &mut Vec<u8>,
+    found: &mut Items<Finding>,
+) -> Result<(), Failed>
+    requires idle { (D.disk dev.old).flights ≡ [] }
+    requires inside { at + length kept.now ≤ (D.disk dev.old).units }
+    requires fits { at + length kept.now ≤ 2 ^ 32 }
+    requires few { length kept.now < 2 ^ 32 }
+    ensures same { D.disk dev.new ≡ D.disk dev.old }
+    ensures sums { OnOk result (AddsSums (IsHeldAt (D.disk dev.old)) (places_from at kept.now) found.old found.new) }
+    ensures later { D.faults dev.old ≤ D.faults dev.new }
+    ensures cause { IsErrOf result Failed.Fault → Rose (D.faults dev.old) (D.faults dev.new) }
+{
+    dev.read(at, kept.len() as u32, buffer)?;
+    match compare(at, kept, buffer, found) {
+        Ok(()) => Ok(()),
+        Err(_) => Err(Failed::Memory),
+    }
+}
+
+// Does so for as many units as there are, at most 64 at a time.
+fn check_units<D: Device>(
+    dev: &mut D,
+    unit: u32,
+    csums: &[u32],
+    buffer: &mut Vec<u8>,
+    found: &mut Items<Finding>,
+) -> Result<(), Failed>
+    requires idle { (D.disk dev.old).flights ≡ [] }
+    requires units { (D.disk dev.old).units ≤ 1048576 }
+    requires inside { unit + length csums.now ≤ (D.disk dev.old).units }
+    ensures same { D.disk dev.new ≡ D.disk dev.old }
+    ensures sums { OnOk result (AddsSums (IsHeldAt (D.disk dev.old)) (places_from unit csums.now) found.old found.new) }
+    ensures later { D.faults dev.old ≤ D.faults dev.new }
+    ensures cause { IsErrOf result Failed.Fault → Rose (D.faults dev.old) (D.faults dev.new) }
+{
+    let mut at = unit;
+    let mut left = csums;
+    'pieces: while !left.is_empty() {
+        let (piece, rest) = left.split_at(left.len().min(MOST_UNITS));
+        check_run(dev, at, piece, buffer, found)?;
+        at += piece.len() as u32;
+        left = rest;
+    }
+    Ok(())
+}
+
+// Does so for the units of an extent.
+fn check_extent<D: Device>(
+    dev: &mut D,
+    extent: &Extent,
+    buffer: &mut Vec<u8>,
+    found: &mut Items<Finding>,
+) -> Result<(), Failed>
+    requires idle { (D.disk dev.old).flights ≡ [] }
+    requires units { (D.disk dev.old).units ≤ 1048576 }
+    requires inside { EndsBy (D.disk dev.old).units extent.now.body }
+    ensures same { D.disk dev.new ≡ D.disk dev.old }
+    ensures sums { OnOk result (AddsSums (IsHeldAt (D.disk dev.old)) (extent_places extent.now) found.old found.new) }
+    ensures later { D.faults dev.old ≤ D.faults dev.new }
+    ensures cause { IsErrOf result Failed.Fault → Rose (D.faults dev.old) (D.faults dev.new) }
+{
+    let Body::Private { unit, csums } = &extent.body;
+    check_units(dev, unit.number(), csums.as_slice(), buffer, found)
+}
+
+// Does so for the extents of a shard.
+fn check_shard<D: Device>(
+    dev: &mut D,
+    extents: &[Extent],
+    buffer: &mut Vec<u8>,
+    found: &mut Items<Finding>,
+) -> Result<(), Failed>
+    requires idle { (D.disk dev.old).flights ≡ [] }
+    requires units { (D.disk dev.old).units ≤ 1048576 }
+    requires inside { AllEndBy (D.disk dev.old).units extents.now }
+    ensures same { D.disk dev.new ≡ D.disk dev.old }
+    ensures sums { OnOk result (AddsSums (IsHeldAt (D.disk dev.old)) (shard_places extents.now) found.old found.new) }
+    ensures later { D.faults dev.old ≤ D.faults dev.new }
+    ensures cause { IsErrOf result Failed.Fault → Rose (D.faults dev.old) (D.faults dev.new) }
+{
+    for extent in extents {
+        check_extent(dev, extent, buffer, found)?;
+    }
+    Ok(())
+}
+
+// Does so for a row that is a shard; another row has no pages.
+fn check_row<D: Device>(
+    alloc: Global,
+    dev: &mut D,
+    width: Width,
+    key: &[u8],
+    value: &[u8],
+    buffer: &mut Vec<u8>,
+    found: &mut Items<Finding>,
+) -> Result<(), Failed>
+    requires idle { (D.disk dev.old).flights ≡ [] }
+    requires units { (D.disk dev.old).units ≤ 1048576 }
+    requires spells { SpellsRowWithin width key.now value.now (D.disk dev.old).units }
+    ensures same { D.disk dev.new ≡ D.disk dev.old }
+    ensures sums { OnOk result (AddsRowSums width (IsHeldAt (D.disk dev.old)) key.now value.now found.old found.new) }
+    ensures later { D.faults dev.old ≤ D.faults dev.new }
+    ensures cause { IsErrOf result Failed.Fault → Rose (D.faults dev.old) (D.faults dev.new) }
+{
+    if !is_shard(key, value) {
+        return Ok(());
+    }
+    let decoded = match decode_extents(alloc, width, value) {
+        Ok(decoded) => decoded,
+        Err(_) => return Err(Failed::Memory),
+    };
+    let Some(extents) = decoded else {
+        unreachable!();
+    };
+    check_shard(dev, &extents, buffer, found)
+}
+
+/// The bad pages of a store without bad rows, as findings: the units of each shard are read, at most 64 at a time, in the order of the keys, which
+/// is that of collections, objects and pages.
+pub(crate) fn bad_sums<D: Device>(
+    alloc: Global,
+    dev: &mut D,
+    sup: &Super,
+    rows: &RowTable,
+) -> Result<Items<Finding>, Failed>
+    requires idle { (D.disk dev.old).flights ≡ [] }
+    requires limits { IsSuper sup.now }
+    requires units { sup.now.units ≡ (D.disk dev.old).units }
+    requires good { NoBadRow sup.now rows.now.rows }
+    ensures same { D.disk dev.new ≡ D.disk dev.old }
+    ensures sums { IfOk result (FindsSums (width_of sup.now) (IsHeldAt (D.disk dev.old)) rows.now.rows) }
+    ensures later { D.faults dev.old ≤ D.faults dev.new }
+    ensures cause { IsErrOf result Failed.Fault → Rose (D.faults dev.old) (D.faults dev.new) }
+{
+    let width = sup.width();
+    let mut buffer = Vec::new(alloc);
+    let mut found = Items::new(alloc);
+    for (key, value) in rows.range(b"", None) {
+        check_row(
+            alloc,
+            dev,
+            width,
+            key.as_slice(),
+            value.as_slice(),
+            &mut buffer,
+            &mut found,
+        )?;
+    }
+    Ok(found)
+}

@@ -33,7 +33,6 @@ module _ (rows : List Row) where
   no_fsck else_none (Step dev seed scripts) s = differ (codes "fsck") (codes "step") 0 102 115 refl refl (omega arith) s.1.0
   no_fsck else_none (Dump dev) s = differ (codes "fsck") (codes "dump") 0 102 100 refl refl (omega arith) s.1.0
 
-
   -- a name that is none of these says nothing
   pub no_other : (name : Text) → name ≢ codes "mkfs" → name ≢ codes "step" → name ≢ codes "dump" → name ≢ codes "fsck" → IsNotSaid name rows
   no_other name mkfs step dump fsck (Mkfs dev half units prefer) s = mkfs s.1.0

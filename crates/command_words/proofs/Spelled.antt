@@ -215,14 +215,14 @@ mkfs_ends dev half units prefer range plain =
     let prefer_ok = number_ok prefer small_prefer 0 1048576 (omega arith) range.3 in
     let words : List Text = dev ∷ codes "--half" ∷ decimal half ∷ codes "--units" ∷ decimal units ∷ codes "--prefer" ∷ decimal prefer ∷ [] in
     let walks : Walks s start words w7 =
-        turn_then s start w1 w7 dev _ (value_turns s nothing_held idle 1 dev plain refl)
-        (turn_then s w1 w2 w7 (codes "--half") _ (word_turns s w1 (codes "--half") (both_none _ _ (name_ok dev range.0) refl))
-        (turn_then s w2 w3 w7 (decimal half) _ (value_turns s w2.held w2.waiting w2.position (decimal half) (plain_number half small_half) refl)
-        (turn_then s w3 w4 w7 (codes "--units") _ (word_turns s w3 (codes "--units") (both_none _ _ half_ok refl))
-        (turn_then s w4 w5 w7 (decimal units) _ (value_turns s w4.held w4.waiting w4.position (decimal units) (plain_number units small_units) refl)
-        (turn_then s w5 w6 w7 (codes "--prefer") _ (word_turns s w5 (codes "--prefer") (both_none _ _ units_ok refl))
-        (turn_then s w6 w7 w7 (decimal prefer) [] (value_turns s w6.held w6.waiting w6.position (decimal prefer) (plain_number prefer small_prefer) refl)
-        (at_end s w7))))))) in
+    turn_then s start w1 w7 dev _ (value_turns s nothing_held idle 1 dev plain refl)
+    (turn_then s w1 w2 w7 (codes "--half") _ (word_turns s w1 (codes "--half") (both_none _ _ (name_ok dev range.0) refl))
+    (turn_then s w2 w3 w7 (decimal half) _ (value_turns s w2.held w2.waiting w2.position (decimal half) (plain_number half small_half) refl)
+    (turn_then s w3 w4 w7 (codes "--units") _ (word_turns s w3 (codes "--units") (both_none _ _ half_ok refl))
+    (turn_then s w4 w5 w7 (decimal units) _ (value_turns s w4.held w4.waiting w4.position (decimal units) (plain_number units small_units) refl)
+    (turn_then s w5 w6 w7 (codes "--prefer") _ (word_turns s w5 (codes "--prefer") (both_none _ _ units_ok refl))
+    (turn_then s w6 w7 w7 (decimal prefer) [] (value_turns s w6.held w6.waiting w6.position (decimal prefer) (plain_number prefer small_prefer) refl)
+    (at_end s w7))))))) in
     record {
       clean = level_clean s words w7 walks prefer_ok refl;
       says = subst (λ (rows : List Row). Says s.name rows (Mkfs dev half units prefer)) (sym (rows_are s words w7 walks))
@@ -282,11 +282,11 @@ step_ends dev seed (t ∷ ts) range plain =
     let seed_ok = number_ok seed small 0 4294967295 (omega arith) (omega (arith, range.1)) in
     let words : List Text = dev ∷ codes "--seed" ∷ decimal seed ∷ t ∷ ts in
     let walks : Walks s start words w5 =
-        turn_then s start w1 w5 dev _ (value_turns s nothing_held idle 1 dev plain.0 refl)
-        (turn_then s w1 w2 w5 (codes "--seed") _ (word_turns s w1 (codes "--seed") (both_none _ _ (name_ok dev range.0) refl))
-        (turn_then s w2 w3 w5 (decimal seed) _ (value_turns s w2.held w2.waiting w2.position (decimal seed) (plain_number seed small) refl)
-        (turn_then s w3 w4 w5 t ts (value_turns s w3.held w3.waiting w3.position t plain.1.0 seed_ok)
-        (scripts_walk rows (t ∷ []) ts plain.1.1)))) in
+    turn_then s start w1 w5 dev _ (value_turns s nothing_held idle 1 dev plain.0 refl)
+    (turn_then s w1 w2 w5 (codes "--seed") _ (word_turns s w1 (codes "--seed") (both_none _ _ (name_ok dev range.0) refl))
+    (turn_then s w2 w3 w5 (decimal seed) _ (value_turns s w2.held w2.waiting w2.position (decimal seed) (plain_number seed small) refl)
+    (turn_then s w3 w4 w5 t ts (value_turns s w3.held w3.waiting w3.position t plain.1.0 seed_ok)
+    (scripts_walk rows (t ∷ []) ts plain.1.1)))) in
     record {
       clean = level_clean s words w5 walks (both_none _ _ (few_ok (length (t ∷ ts)) range.2.0 range.2.1) (names_ok (t ∷ ts) range.2.2)) refl;
       says = subst (λ (rows : List Row). Says s.name rows (StepLine dev seed (t ∷ ts))) (sym (rows_are s words w5 walks))
@@ -306,17 +306,17 @@ unfolding clap_on_literals
 top_level rest name leaf line program range turned clean found ends =
     let stops : Walk = record start { stopped = Some (name, rest) } in
     let walks : walk app.top.rules (names_of app) nothing_held (name ∷ rest) ≡ stops =
-        ap (λ (w : Walk). fold (walked app.top.rules (names_of app)) w rest) turned ∙ sym (walk_stopped app.top.rules (names_of app) start name [] rest) in
+    ap (λ (w : Walk). fold (walked app.top.rules (names_of app)) w rest) turned ∙ sym (walk_stopped app.top.rules (names_of app) start name [] rest) in
     let fault : walk_fault app.top (names_of app) start (name ∷ rest) ≡ [] =
-        both_none _ _ clean (ap (λ (w : Walk). walk_fault app.top (names_of app) w rest) turned ∙ stopped_fault app.top (names_of app) start (name, []) rest) in
+    both_none _ _ clean (ap (λ (w : Walk). walk_fault app.top (names_of app) w rest) turned ∙ stopped_fault app.top (names_of app) start (name, []) rest) in
     let below : entered_fault app (Some (name, rest)) ≡ [] =
-        ap (λ (o : Option Shape). option_map_or (λ s. level_fault s [] nothing_held rest false []) o []) found ∙ ends.clean in
+    ap (λ (o : Option Shape). option_map_or (λ s. level_fault s [] nothing_held rest false []) o []) found ∙ ends.clean in
     let enters : entered app (Some (name, rest)) ≡ Some (rows_at leaf rest) = ap (option_map (λ s. rows_at s rest)) found in
     let later : Walk → Kinds = λ w. or_else (entered_fault app w.stopped) (or_else (settle_fault app.top.rules app.top.args_override_self w.held)
-        (or_else (defaults_fault (settled app.top.rules w.held).rows app.top.rules) (check_fault app.top (finished app.top.rules w.held) (is_some (entered app w.stopped))))) in
+    (or_else (defaults_fault (settled app.top.rules w.held).rows app.top.rules) (check_fault app.top (finished app.top.rules w.held) (is_some (entered app w.stopped))))) in
     let taken : AreTaken (program ∷ name ∷ rest) =
-        both_none _ _ fault (ap later walks ∙ both_none (entered_fault app (Some (name, rest))) _ below
-        (ap (λ (o : Option (Text × List Row)). check_fault app.top [] (is_some o)) enters)) in
+    both_none _ _ fault (ap later walks ∙ both_none (entered_fault app (Some (name, rest))) _ below
+    (ap (λ (o : Option (Text × List Row)). check_fault app.top [] (is_some o)) enters)) in
     record {
       in_range = range;
       taken = taken;

@@ -63,9 +63,10 @@ accepted false (x ∷ k) some none = absurd cc
 -- each value passed the parser
 pub all_pass : (i : Bool) (p : ValueParser) (vs : List Text) → values_kinds i p vs ≡ [] → AllByRecursion (Accepts i p) vs
 all_pass i p [] none = tt
-all_pass i p (v ∷ vs) none =
-    (accepts-Accepts i p v (accepted (accepts i p v) _ (omega arith) (none_first (value_kinds i p v) (values_kinds i p vs) none)),
-    all_pass i p vs (none_next (value_kinds i p v) (values_kinds i p vs) none))
+all_pass i p (v ∷ vs) none = (
+  accepts-Accepts i p v (accepted (accepts i p v) _ (omega arith) (none_first (value_kinds i p v) (values_kinds i p vs) none)),
+  all_pass i p vs (none_next (value_kinds i p v) (values_kinds i p vs) none),
+)
 
 without_minus-cond : (t : Text) → without_minus t ≡ cond (starts_with_minus t) (drop 1 t) t
 without_minus-cond [] = refl
@@ -266,8 +267,8 @@ name_of a rows parser range few has =
     let one = one_value has.row.values a.defaults few many in
     let passed = all_pass a.ignore_case (parser_of_value a.parser) has.row.values has.fits.passes in
     let named : AllByRecursion IsFileName (one.0 ∷ []) =
-        subst (λ (p : Option ValueParser). AllByRecursion (Accepts a.ignore_case (parser_of_value p)) (one.0 ∷ [])) parser
-        (subst (AllByRecursion (Accepts a.ignore_case (parser_of_value a.parser))) one.1 passed) in
+    subst (λ (p : Option ValueParser). AllByRecursion (Accepts a.ignore_case (parser_of_value p)) (one.0 ∷ [])) parser
+    (subst (AllByRecursion (Accepts a.ignore_case (parser_of_value a.parser))) one.1 passed) in
     (one.0, ap (option_and_then (λ (r : Row). slice_get r.values 0)) has.found ∙ ap (λ (vs : List Text). slice_get vs 0) one.1, named.0)
 
 -- its one value is a number of a range
@@ -279,13 +280,13 @@ number_at a rows low high parser range few has =
     let one = one_value has.row.values a.defaults few many in
     let passed = all_pass a.ignore_case (parser_of_value a.parser) has.row.values has.fits.passes in
     let number : AllByRecursion (IsSignedIn (pos low) (pos high)) (one.0 ∷ []) =
-        subst (λ (p : Option ValueParser). AllByRecursion (Accepts a.ignore_case (parser_of_value p)) (one.0 ∷ [])) parser
-        (subst (AllByRecursion (Accepts a.ignore_case (parser_of_value a.parser))) one.1 passed) in
+    subst (λ (p : Option ValueParser). AllByRecursion (Accepts a.ignore_case (parser_of_value p)) (one.0 ∷ [])) parser
+    (subst (AllByRecursion (Accepts a.ignore_case (parser_of_value a.parser))) one.1 passed) in
     let read = in_range one.0 low high number.0 in
     let how : has.row.reading ≡ reading_of (vp.Signed (pos low) (pos high)) = has.fits.reading ∙ ap (λ (p : Option ValueParser). reading_of (parser_of_value p)) parser in
     let text : one_of a.id rows ≡ Some (without_minus one.0) =
-        ap (option_and_then row_text) has.found ∙ ap (λ (vs : List Text). option_map (read_as has.row.reading) (slice_get vs 0)) one.1
-        ∙ ap (λ (x : Reading). Some (read_as x one.0)) how in
+    ap (option_and_then row_text) has.found ∙ ap (λ (vs : List Text). option_map (read_as has.row.reading) (slice_get vs 0)) one.1
+    ∙ ap (λ (x : Reading). Some (read_as x one.0)) how in
     (read.0, read.1, read.2, subst (λ (o : Option Text). IsSomeAnd o (Writes read.0)) (sym text) read.3)
 
 limits_pass : (zero less more : Bool) (a b c : Kinds) → 0 < length a → 0 < length b → 0 < length c → cond zero a (cond less b (cond more c [])) ≡ [] → (zero ≡ false) × (more ≡ false)
@@ -313,7 +314,7 @@ pub names_of_files : (a : Rule) (rows : List Row) → a.parser ≡ Some vp.NonEm
 names_of_files a rows parser range none has =
     let passed = all_pass a.ignore_case (parser_of_value a.parser) has.row.values has.fits.passes in
     let named : AllByRecursion IsFileName has.row.values =
-        subst (λ (p : Option ValueParser). AllByRecursion (Accepts a.ignore_case (parser_of_value p)) has.row.values) parser passed in
+    subst (λ (p : Option ValueParser). AllByRecursion (Accepts a.ignore_case (parser_of_value p)) has.row.values) parser passed in
     let many = subst (λ (x : ValueRange). (range_kinds x.start_inclusive x.end_inclusive (length has.row.values) ≡ []) ⊎ ((has.row.values ≡ a.defaults) × (0 < length has.row.values))) range has.fits.many in
     let few : (1 ≤ length has.row.values) × (length has.row.values ≤ 64) = elim many [
       | inl within ↦ in_limits (length has.row.values) within
@@ -433,7 +434,7 @@ module _ (s : Shape) (helps : s.disable_help_subcommand ≡ false) where
   module _ (names : Names) where
     turn_stops : (o : Option (Text × List Text)) (w : Walk) (word : Text)
         → cond (is_some o) [] (or_else (word_fault s names w.is_trailing w.waiting word w.held)
-          (step_fault s w.position (word_met s.rules names w.is_trailing w.waiting w.position word w.held).0 (word_met s.rules names w.is_trailing w.waiting w.position word w.held).1)) ≡ []
+        (step_fault s w.position (word_met s.rules names w.is_trailing w.waiting w.position word w.held).0 (word_met s.rules names w.is_trailing w.waiting w.position word w.held).1)) ≡ []
         → StopsWell o → StopsWell w.stopped → StopsWell (walked_from s.rules names o w word).stopped
     turn_stops (Some p) w word none stops well = stops
     turn_stops None w word none stops well =
@@ -498,12 +499,12 @@ taken_spells words taken =
     let end : Walk = walk app.top.rules (names_of app) nothing_held args in
     let below = entered_fault app end.stopped in
     let rest = or_else (settle_fault app.top.rules app.top.args_override_self end.held) (or_else (defaults_fault (settled app.top.rules end.held).rows app.top.rules)
-        (check_fault app.top (finished app.top.rules end.held) (is_some (entered app end.stopped)))) in
+    (check_fault app.top (finished app.top.rules end.held) (is_some (entered app end.stopped)))) in
     let walks = none_first (walk_fault app.top (names_of app) (walk_from nothing_held) args) (or_else below rest) taken in
     let later = none_next (walk_fault app.top (names_of app) (walk_from nothing_held) args) (or_else below rest) taken in
     let checks = none_next (defaults_fault (settled app.top.rules end.held).rows app.top.rules)
-        (check_fault app.top (finished app.top.rules end.held) (is_some (entered app end.stopped)))
-        (none_next (settle_fault app.top.rules app.top.args_override_self end.held) _ (none_next below rest later)) in
+    (check_fault app.top (finished app.top.rules end.held) (is_some (entered app end.stopped)))
+    (none_next (settle_fault app.top.rules app.top.args_override_self end.held) _ (none_next below rest later)) in
     let said = found_by end.stopped (must_enter (finished app.top.rules end.held) (is_some (entered app end.stopped)) checks) (none_first below rest later)
-        (walk_stops app.top refl (names_of app) args (walk_from nothing_held) walks tt) in
+    (walk_stops app.top refl (names_of app) args (walk_from nothing_held) walks tt) in
     (said.0, spelled words (entered app end.stopped) said.0 taken refl said.1)

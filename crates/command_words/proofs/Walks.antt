@@ -124,24 +124,27 @@ module _ (c : List Rule) (known : AreKnown c) where
     | inl set ↦
         let range = none_first _ _ none in
         let action : action_fault Set false a (values_or_missing a values) rows ≡ [] =
-            subst (λ (x : ArgAction). action_fault x false a (values_or_missing a values) rows ≡ []) set.0 (none_next _ _ none) in
+        subst (λ (x : ArgAction). action_fault x false a (values_or_missing a values) rows ≡ []) set.0 (none_next _ _ none) in
         let new : has_row a.id rows ≡ false = not_again a.id rows (none_first _ _ action) in
         let same = missing_none a values set.1 in
         let passes : values_fault a values ≡ [] = subst (λ (vs : List Text). values_fault a vs ≡ []) same (none_next _ _ action) in
         let row : Row = record { id = a.id; values = values; count = None; source = Some CommandLine; reading = reading_by a } in
         let is_put : used a values rows ≡ rows ++ row ∷ [] =
-            ap (λ (x : ArgAction). used_as x a.id (reading_by a) (values_or_missing a values) rows) set.0
-            ∙ ap (λ (vs : List Text). used_as Set a.id (reading_by a) vs rows) same
-            ∙ ap (λ (rs : List Row). with_values a.id (reading_by a) CommandLine values rs) (none_taken a.id rows new)
-            ∙ put a CommandLine values rows new in
+        ap (λ (x : ArgAction). used_as x a.id (reading_by a) (values_or_missing a values) rows) set.0
+        ∙ ap (λ (vs : List Text). used_as Set a.id (reading_by a) vs rows) same
+        ∙ ap (λ (rs : List Row). with_values a.id (reading_by a) CommandLine values rs) (none_taken a.id rows new)
+        ∙ put a CommandLine values rows new in
         subst (AreGood c) (sym is_put) (all_end (λ (r : Row). Among (λ x. Fits x r) c) rows row good
-        (among_in (λ x. x ≡ a) (λ x. Fits x row) (λ x e. record { id = ap (λ (y : Rule). y.id) (sym e); reading = ap reading_by (sym e);
-            many = inl (subst (λ (y : Rule). range_kinds (unwrap_or_range y.range).start_inclusive (most_values y) (length values) ≡ []) (sym e) range);
-            passes = subst (λ (y : Rule). values_fault y values ≡ []) (sym e) passes }) c is))
+        (among_in (λ x. x ≡ a) (λ x. Fits x row) (λ x e. record {
+          id = ap (λ (y : Rule). y.id) (sym e);
+          reading = ap reading_by (sym e);
+          many = inl (subst (λ (y : Rule). range_kinds (unwrap_or_range y.range).start_inclusive (most_values y) (length values) ≡ []) (sym e) range);
+          passes = subst (λ (y : Rule). values_fault y values ≡ []) (sym e) passes;
+        }) c is))
     | inr help ↦
         let action : action_fault Help false a (values_or_missing a values) rows ≡ [] =
-            subst (λ (x : ArgAction). action_fault x false a (values_or_missing a values) rows ≡ []) help
-            (none_next (range_kinds (unwrap_or_range a.range).start_inclusive (most_values a) (length values)) (action_fault (action_of a) false a (values_or_missing a values) rows) none) in
+        subst (λ (x : ArgAction). action_fault x false a (values_or_missing a values) rows ≡ []) help
+        (none_next (range_kinds (unwrap_or_range a.range).start_inclusive (most_values a) (length values)) (action_fault (action_of a) false a (values_or_missing a values) rows) none) in
         absurd cc
   ]
 
@@ -290,7 +293,7 @@ module _ (s : Shape) (known : AreKnown s.rules) (once_only : s.args_override_sel
   module _ (names : Names) where
     turn_good : (o : Option (Text × List Text)) (w : Walk) (word : Text)
         → cond (is_some o) [] (or_else (word_fault s names w.is_trailing w.waiting word w.held)
-          (step_fault s w.position (word_met s.rules names w.is_trailing w.waiting w.position word w.held).0 (word_met s.rules names w.is_trailing w.waiting w.position word w.held).1)) ≡ []
+        (step_fault s w.position (word_met s.rules names w.is_trailing w.waiting w.position word w.held).0 (word_met s.rules names w.is_trailing w.waiting w.position word w.held).1)) ≡ []
         → AreGood s.rules w.held.rows → AreGood s.rules (walked_from s.rules names o w word).held.rows
     turn_good (Some p) w word none good = good
     turn_good None w word none good =
@@ -319,8 +322,12 @@ module _ (c : List Rule) (known : AreKnown c) where
       let row : Row = record { id = a.id; values = v ∷ vs; count = None; source = Some DefaultValue; reading = reading_by a } in
       let is_put : with_values a.id (reading_by a) DefaultValue (v ∷ vs) rows ≡ rows ++ row ∷ [] = put a DefaultValue (v ∷ vs) rows new in
       subst (AreGood c) (sym is_put) (all_end (λ (r : Row). Among (λ x. Fits x r) c) rows row good
-      (among_in (λ x. x ≡ a) (λ x. Fits x row) (λ x e. subst (λ (y : Rule). Fits y row) (sym e) (record { id = refl; reading = refl;
-          many = inr (sym are, omega arith); passes = none_next (request_kinds (action_of a)) (values_fault a (v ∷ vs)) asked })) c is))
+      (among_in (λ x. x ≡ a) (λ x. Fits x row) (λ x e. subst (λ (y : Rule). Fits y row) (sym e) (record {
+        id = refl;
+        reading = refl;
+        many = inr (sym are, omega arith);
+        passes = none_next (request_kinds (action_of a)) (values_fault a (v ∷ vs)) asked;
+      })) c is))
 
   default_good : (a : Rule) (rows : List Row) (b : Bool) → has_row a.id rows ≡ b → Among (λ x. x ≡ a) c
       → cond (b || is_empty a.defaults) [] (given_default_fault a a.defaults) ≡ [] → AreGood c rows

@@ -5,12 +5,12 @@ ghost use Rattle.command_words.specs.Table.{table};
 ghost use Rattle.command_words.specs.CommandLine.{words_of, IsFileName, AreFileNames, IsInRange, HasText, HasTexts, HasNumber, Says, Spells, AreTaken, IsWhyNot, IsWhyFor, IsNotSaid, IsSaid, IsNotFound, IsFound};
 
 use crate::file_names::{FileName, FileNames, read_file_name, read_file_names};
-use unit_fields::limits::{LEAST_HALF, MOST_HALF, MOST_PREFER, MOST_UNITS};
 use crate::no_line::NoLine;
 use crate::table;
 use clap::ArgMatches;
 use clap::error::ErrorKind;
 use std::alloc::Global;
+use unit_fields::limits::{LEAST_HALF, MOST_HALF, MOST_PREFER, MOST_UNITS};
 
 /// A command line.
 #[derive(Drop)]

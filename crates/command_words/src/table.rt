@@ -3,10 +3,10 @@ ghost use Rattle.std.specs.Prelude.{◌≡◌, IfOk, codes};
 ghost use Rattle.clap.specs.Words.{app_of};
 ghost use Rattle.command_words.specs.Table.{IsArg, IsCommand, name_rule, number_rule, prefer_rule, scripts_rule, mkfs, step, dump, fsck, table};
 
-use unit_fields::limits::{LEAST_HALF, MOST_HALF, MOST_PREFER, MOST_UNITS};
 use clap::builder::ValueParser;
 use clap::{Arg, Command};
 use std::alloc::{AllocError, Global};
+use unit_fields::limits::{LEAST_HALF, MOST_HALF, MOST_PREFER, MOST_UNITS};
 
 /// The name of a device.
 fn device<'a>(alloc: Global) -> Arg<'a>

@@ -8,9 +8,9 @@ ghost use Rattle.run_texts.specs.StepTexts.{end_status};
 ghost use Rattle.run_texts.specs.FsckTexts.{fsck_text, fsck_number};
 ghost use Rattle.run_texts.specs.Reports.{ReportsMkfs, ReportsStep, ReportsFsck, ReportsStop, ShowedUsage};
 
+use crate::fsck_texts::{push_count, push_findings};
 use crate::printer::Printer;
 use crate::replies::has_csum;
-use crate::fsck_texts::{push_count, push_findings};
 use crate::step_texts::{push_fail, push_step};
 use crate::texts::{push_made, push_stopped, push_too_small};
 use crate::{Status, Stop, WorkEnd};

@@ -39,9 +39,6 @@ pub const BOOK_LIMIT: u32 = 1048576;
 /// The greatest `prefer`: a write of at least so many bytes takes units of its own where a shorter one would be deferred.
 pub const MOST_PREFER: u32 = 1048576;
 
-/// The `prefer` of a store whose maker names none.
-pub const DEFAULT_PREFER: u32 = 32768;
-
 /// The most pages of an extent.
 pub const EXTENT_PAGES: u16 = 256;
 

@@ -1,4 +1,4 @@
-use Rattle.std.proofs.Common.{IfOk, IfErr, inl, inr, sym, subst}
+use Rattle.std.proofs.Common.{IfOk, IfErr, inr, sym, subst}
 use Rattle.std.proofs.lemmas.Result.{IfOk-weaker, IfErr-weaker}
 use Rattle.block_device.specs.Prelude.{Disk}
 use Rattle.unit_allocator.specs.Prelude.{Space}

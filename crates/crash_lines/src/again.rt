@@ -1,6 +1,7 @@
 //! Stores that are opened after each crash of a run, and every cut of what is done then.
 
 use crate::Sweep;
+use crate::looked::FsckLine;
 use block_device::{MemoryDevice, Tear};
 use case_text::{CaseError, Text, Words, print_text};
 use plain_reader::{Counts, Judge, image_at, tear_of};
@@ -18,18 +19,23 @@ struct First {
 
 /// What came of it: the images looked at, those of no front, and the last lines of the runs, each once.
 #[derive(Drop)]
-struct Seen {
+struct Seen<C: Commands> {
+    fsck: FsckLine<C>,
     crashes: u64,
     counts: Counts,
     ends: Text,
 }
 
-impl Seen {
-    fn new(alloc: Global) -> Seen {
-        Seen {
-            crashes: 0,
-            counts: Counts::new(alloc),
-            ends: Text::new(alloc),
+impl<C: Commands> Seen<C> {
+    fn new(alloc: Global) -> Result<Seen<C>, CaseError> {
+        match FsckLine::new(alloc) {
+            Ok(fsck) => Ok(Seen {
+                fsck,
+                crashes: 0,
+                counts: Counts::new(alloc),
+                ends: Text::new(alloc),
+            }),
+            Err(wrong) => Err(wrong),
         }
     }
 
@@ -83,13 +89,13 @@ impl<C: Commands> Sweep<C> {
     }
 
     /// Looks at each cut of what was done after a crash.
-    fn sweep_after(&self, first: &First, cut: u64, seen: &mut Seen) -> Result<(), CaseError> {
+    fn sweep_after(&self, first: &First, cut: u64, seen: &mut Seen<C>) -> Result<(), CaseError> {
         let last = self.last()?;
         seen.push_end(&self.case.text);
         if self.judge.leaked != first.judge.leaked {
             seen.push_other(cut);
         }
-        last.sweep_into(1, 0, &mut seen.counts);
+        last.sweep_into(&mut seen.fsck, 1, 0, &mut seen.counts);
         Ok(())
     }
 
@@ -98,7 +104,7 @@ impl<C: Commands> Sweep<C> {
         &mut self,
         first: &First,
         words: Words<'_>,
-        seen: &mut Seen,
+        seen: &mut Seen<C>,
     ) -> Result<(), CaseError> {
         for cut in 0..=first.dev.events() {
             self.step_after(first, cut, words)?;
@@ -115,7 +121,7 @@ impl<C: Commands> Sweep<C> {
         words: Words<'_>,
         out: &mut Text,
     ) -> Result<(), CaseError> {
-        let mut seen = Seen::new(self.alloc);
+        let mut seen = Seen::<C>::new(self.alloc)?;
         let swept = self.sweep_each(first, words, &mut seen);
         seen.print(least, out);
         swept

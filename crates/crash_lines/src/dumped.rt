@@ -3,7 +3,7 @@
 use crate::Sweep;
 use crate::last::Last;
 use case_text::{CaseError, Follow, Text};
-use plain_reader::{Counts, TEARS, acknowledged, found_text, image_at};
+use plain_reader::{Counts, Looked, TEARS, acknowledged, found_text, image_at};
 use run_lines::{Case, Commands};
 use std::alloc::Global;
 
@@ -24,10 +24,14 @@ fn dump<C: Commands>(other: &mut Case<C>, image: Vec<u8>) -> Result<(), CaseErro
 impl<'a> Last<'a> {
     /// Whether the image that was dumped in a case is one that the run may leave, where a front has so many commits at least, and `dump`
     /// has printed what is in it.
-    fn has_dumped<C: Commands>(&self, other: &Case<C>, least: usize) -> Result<bool, CaseError> {
+    fn has_dumped<C: Commands>(&self, other: &Case<C>, least: usize) -> Result<Looked, CaseError> {
         let image = other.setup.bytes("dev")?;
         let good = other.has_status(0) && shows(self.alloc, image, &other.text);
-        Ok(good && self.judge.is_front(image, least))
+        Ok(if good && self.judge.is_front(image, least) {
+            Looked::Good
+        } else {
+            Looked::OfNoFront
+        })
     }
 
     /// Dumps each image of a cut in a case of its own.

@@ -4,7 +4,7 @@ use block_device::{MemoryDevice, Tear};
 use case_text::{CaseError, Setup, Text, Words, number};
 use object_model::Book;
 use plain_reader::{
-    Counts, Found, Judge, Judgement, acknowledged, cut_of, image_at, leaked_in, tear_of,
+    Counts, Found, Fsck, Judge, Judgement, acknowledged, cut_of, image_at, leaked_in, tear_of,
 };
 use std::alloc::Global;
 
@@ -55,51 +55,69 @@ fn rows_in(found: &Found) -> &'static str {
 
 impl<'a> Last<'a> {
     /// Follows a line, of which the first word is taken.
-    pub fn act(
+    pub fn act<F: Fsck>(
         &self,
         kind: LastKind,
+        fsck: &mut F,
         setup: &Setup,
         words: Words<'_>,
         out: &mut Text,
     ) -> Result<(), CaseError> {
         match kind {
-            LastKind::Sweep => self.sweep_all(words, out),
-            LastKind::Early => self.sweep_early(words, out),
+            LastKind::Sweep => self.sweep_all(fsck, words, out),
+            LastKind::Early => self.sweep_early(fsck, words, out),
             LastKind::Judge => self.judge_device(setup, words, out),
             LastKind::Rows => self.show_rows(words, out),
         }
     }
 
     /// Looks at each `every`-th cut, where each commit counts as acknowledged so many events too early, and shows what came of it.
-    fn sweep(&self, every: u64, earlier: u64, least: Option<u64>, out: &mut Text) {
+    fn sweep<F: Fsck>(
+        &self,
+        fsck: &mut F,
+        every: u64,
+        earlier: u64,
+        least: Option<u64>,
+        out: &mut Text,
+    ) {
         let mut counts = Counts::new(self.alloc);
-        self.sweep_into(every, earlier, &mut counts);
+        self.sweep_into(fsck, every, earlier, &mut counts);
         counts.print(least, out);
     }
 
     /// Looks at each `every`-th cut, where each commit counts as acknowledged so many events too early.
-    pub fn sweep_into(&self, every: u64, earlier: u64, counts: &mut Counts) {
+    pub fn sweep_into<F: Fsck>(&self, fsck: &mut F, every: u64, earlier: u64, counts: &mut Counts) {
         self.judge
-            .judge_each(self.dev, self.book, every, earlier, counts);
+            .judge_each(fsck, (self.dev, self.book), every, earlier, counts);
     }
 
-    /// Follows `sweep EVERY`, which looks at each so many-th cut and shows the images that are of no front, and `sweep EVERY LEAST`,
+    /// Follows `sweep EVERY`, which looks at each so many-th cut and shows the images that are of no front or with findings, and `sweep EVERY LEAST`,
     /// which shows of their number only that it is more than this.
-    fn sweep_all(&self, mut words: Words<'_>, out: &mut Text) -> Result<(), CaseError> {
+    fn sweep_all<F: Fsck>(
+        &self,
+        fsck: &mut F,
+        mut words: Words<'_>,
+        out: &mut Text,
+    ) -> Result<(), CaseError> {
         let every = words.number()?;
         if words.is_empty() {
-            self.sweep(every, 0, None, out);
+            self.sweep(fsck, every, 0, None, out);
         } else {
             let least = words.last().and_then(number)?;
-            self.sweep(every, 0, Some(least), out);
+            self.sweep(fsck, every, 0, Some(least), out);
         }
         Ok(())
     }
 
     /// Follows `early EVERY BY`, where each commit counts as acknowledged so many events earlier than it was.
-    fn sweep_early(&self, words: Words<'_>, out: &mut Text) -> Result<(), CaseError> {
+    fn sweep_early<F: Fsck>(
+        &self,
+        fsck: &mut F,
+        words: Words<'_>,
+        out: &mut Text,
+    ) -> Result<(), CaseError> {
         let [every, earlier] = words.numbers::<2>()?;
-        self.sweep(every, earlier, None, out);
+        self.sweep(fsck, every, earlier, None, out);
         Ok(())
     }
 

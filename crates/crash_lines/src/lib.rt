@@ -9,6 +9,7 @@ mod case;
 mod dumped;
 mod last;
 mod lines;
+mod looked;
 mod told;
 
 pub use case::Sweep;

@@ -2,6 +2,7 @@
 
 use crate::Sweep;
 use crate::last::{LastKind, show_collection, show_leaks};
+use crate::looked::FsckLine;
 use case_text::{CaseError, Follow, Setup, Text, Words, kind_of};
 use run_lines::Commands;
 use std::alloc::Global;
@@ -84,8 +85,9 @@ impl<C: Commands> Sweep<C> {
 
     /// Follows a line that shows what the last run left.
     fn act_last(&self, kind: LastKind, words: Words<'_>, out: &mut Text) -> Result<(), CaseError> {
+        let mut fsck = FsckLine::<C>::new(self.alloc)?;
         match self.last() {
-            Ok(last) => last.act(kind, &self.case.setup, words, out),
+            Ok(last) => last.act(kind, &mut fsck, &self.case.setup, words, out),
             Err(wrong) => Err(wrong),
         }
     }

@@ -1,6 +1,7 @@
 //! What crashes of the last mount leave.
 
 use crate::lines::KernelLines;
+use crate::looked::FsckCall;
 use case_text::{CaseError, Text, Words, number, print_text};
 use plain_reader::{Counts, Judge, Left, Past, TEARS, tear_of};
 use std::alloc::Global;
@@ -55,10 +56,11 @@ impl KernelLines {
 
     /// Counts the images of each cut of a log, torn in each way, where each commit counts as acknowledged so many events too early.
     pub fn judge(&self, left: &Left, earlier: u64, counts: &mut Counts) -> Result<(), CaseError> {
+        let mut fsck = FsckCall::new(self.alloc)?;
         let judge = Judge::new(self.alloc, left, &self.history, earlier)?;
-        let judged = judge.judge_all(left, counts);
+        judge.judge_all(&mut fsck, left, counts);
         drop(judge);
-        judged
+        Ok(())
     }
 
     /// Follows `cuts`: looks at each cut of the log, torn in each way, and shows the images that are of no front of the commits with all

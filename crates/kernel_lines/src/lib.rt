@@ -11,6 +11,7 @@ mod devices;
 mod drawing;
 mod lines;
 mod lists;
+mod looked;
 mod mounted;
 mod stepping;
 mod submitting;

@@ -1,7 +1,7 @@
 //! Which images a run may leave: those of a front of its commits with all that were acknowledged, whose bitmap is exact but for what was
 //! leaked before the run.
 
-use crate::counts::Counts;
+use crate::counts::{Counts, Looked};
 use crate::history::{Past, Told, acknowledged, apply_commit, objects_behind};
 use crate::image::Found;
 use crate::left::{Left, image_at};
@@ -29,6 +29,12 @@ pub struct Judge {
     pub leaked: Vec<u64>,
     /// So many events too early each commit counts as acknowledged.
     earlier: u64,
+}
+
+/// What looks through an image as `fsck` does, beside the plain reader.
+pub trait Fsck {
+    /// Whether it finds that these units are leaked, and nothing else.
+    fn finds_leaked_alone(&mut self, alloc: Global, image: Vec<u8>, leaked: &[u64]) -> bool;
 }
 
 /// What an image is.
@@ -189,21 +195,40 @@ impl Judge {
         is.is_exact && is.commits.is_some()
     }
 
-    /// Looks at each image of a cut.
-    fn judge_cut(&self, dev: &MemoryDevice, cut: u64, least: usize, counts: &mut Counts) {
-        counts.cuts = counts.cuts.wrapping_add(1);
-        for tear in &TEARS {
-            let good = self.is_front(&image_at(self.alloc, dev, cut, *tear), least);
-            counts.count(cut, *tear, good);
+    /// Looks at an image, where a front has so many commits at least.
+    fn look<F: Fsck>(&self, fsck: &mut F, image: Vec<u8>, least: usize) -> Looked {
+        if !self.is_front(&image, least) {
+            return Looked::OfNoFront;
+        }
+        if fsck.finds_leaked_alone(self.alloc, image, &self.leaked) {
+            Looked::Good
+        } else {
+            Looked::WithFindings
         }
     }
 
-    /// Looks at each image of each `every`-th cut, and of the last one, and shows those that the run may not leave. Each commit counts as
-    /// acknowledged so many events too early.
-    pub fn judge_each(
+    /// Looks at each image of a cut.
+    fn judge_cut<F: Fsck>(
         &self,
+        fsck: &mut F,
         dev: &MemoryDevice,
-        book: &Book,
+        cut: u64,
+        least: usize,
+        counts: &mut Counts,
+    ) {
+        counts.cuts = counts.cuts.wrapping_add(1);
+        for tear in &TEARS {
+            let is = self.look(fsck, image_at(self.alloc, dev, cut, *tear), least);
+            counts.count(cut, *tear, is);
+        }
+    }
+
+    /// Looks at each image of each `every`-th cut, and of the last one, and shows those that the run may not leave, or in which `fsck`
+    /// finds something else than what was leaked before. Each commit counts as acknowledged so many events too early.
+    pub fn judge_each<F: Fsck>(
+        &self,
+        fsck: &mut F,
+        (dev, book): (&MemoryDevice, &Book),
         every: u64,
         earlier: u64,
         counts: &mut Counts,
@@ -211,15 +236,15 @@ impl Judge {
         let events = dev.events();
         for cut in 0..=events {
             if cut % every.max(1) == 0 || cut == events {
-                self.judge_cut(dev, cut, acknowledged(book, cut, earlier), counts);
+                self.judge_cut(fsck, dev, cut, acknowledged(book, cut, earlier), counts);
             }
         }
     }
 
-    /// Looks at each image of each cut of a mount, and shows those that it may not leave.
-    pub fn judge_all(&self, left: &Left, counts: &mut Counts) -> Result<(), CaseError> {
-        self.judge_each(&left.dev, &left.book, 1, self.earlier, counts);
-        Ok(())
+    /// Looks at each image of each cut of a mount, and shows those that it may not leave, or in which `fsck` finds something else than
+    /// what was leaked before.
+    pub fn judge_all<F: Fsck>(&self, fsck: &mut F, left: &Left, counts: &mut Counts) {
+        self.judge_each(fsck, (&left.dev, &left.book), 1, self.earlier, counts);
     }
 }
 

@@ -18,10 +18,10 @@ mod spelling;
 mod tears;
 mod values;
 
-pub use counts::Counts;
+pub use counts::{Counts, Looked};
 pub use history::{Past, Told, acknowledged, apply, objects_behind};
 pub use image::Found;
-pub use judge::{Judge, Judgement, leaked_in};
+pub use judge::{Fsck, Judge, Judgement, leaked_in};
 pub use left::{COLLS, Left, cut_of, found_text, image_at};
 pub use names::{coll_of, name_of};
 pub use spelling::NAMES;

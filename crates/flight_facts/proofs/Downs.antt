@@ -1,28 +1,10 @@
 -- A call that leaves the kernel up found it up.
-use Rattle.std.proofs.Common.{◌≡◌, ◌⊎◌, inl, inr, Bool, true, false, cond, Option, Some, None, is_some, refl, sym, ap, subst, ◌∙◌}
-use Rattle.flight_facts.proofs.Common.{Disk, Reaped, Waited, Ticket, Flying, Job, Step}
-use Rattle.store_steps.specs.declared.flight.Job.TheVariants as job
+use Rattle.std.proofs.Common.{◌≡◌, ◌⊎◌, inl, inr, Bool, true, false, cond, Option, Some, None, is_some, sym, ap, subst, ◌∙◌}
+use Rattle.flight_facts.proofs.Common.{Disk, Reaped, Waited, Ticket, Step}
 use Rattle.store_steps.specs.declared.step.Step.TheVariants.{Reap}
-use Rattle.store_steps.specs.Prelude.{State, after_done, after_good, flying_of, landed, down_by, reaped, Takes, Call, submitting, reading, stepping, Calls, DoesOrFails, Submits, Reads}
+use Rattle.store_steps.specs.Prelude.{State, after_good, flying_of, landed, down_by, Takes, Call, submitting, reading, stepping, Calls, DoesOrFails, Submits, Reads}
+use Rattle.flight_facts.proofs.Ends.{good_end}
 use Rattle.flight_facts.proofs.Readiness.{Readiness, while_up, while_down, ready_cases}
-
-done_down : (j : Job) (s : State) → (after_done j s).down ≡ s.down
-done_down (job.Data place count) s = refl
-done_down job.DataFlush s = refl
-done_down job.Record s = refl
-done_down job.RecordFlush s = refl
-
-good_down : (f : Option Flying) (s : State) → (after_good f s).down ≡ s.down
-good_down None s = refl
-good_down (Some f) s = done_down f.job s
-
--- a good end, whether it counts or not
-reaped_down : (ticket : Ticket) (s : State) → (reaped ticket true s).down ≡ s.down
-reaped_down ticket s = of_test (is_some s.down)
-  where
-    of_test : (b : Bool) → (cond b (landed ticket s) (after_good (flying_of ticket s.flying) (landed ticket s))).down ≡ s.down
-    of_test true = refl
-    of_test false = good_down (flying_of ticket s.flying) (landed ticket s)
 
 -- a bad end leaves it down
 pub stays_down : (o : Option Ticket) (ticket : Ticket) → down_by o ticket ≡ None → ⊥
@@ -34,7 +16,7 @@ down_not_up s d s' d' ended up = stays_down s.down ended.ticket (sym (ap (λ (t 
 
 -- while it is down only Reap is ready, and leaves it down
 reap_up : (s : State) (d : Disk) (s' : State) (d' : Disk) → DoesOrFails Reap s d s' d' → s'.down ≡ None → s.down ≡ None
-reap_up s d s' d' (inl (inl ended)) up = sym (ap (λ (t : State). t.down) ended.after ∙ reaped_down ended.ticket s) ∙ up
+reap_up s d s' d' (inl (inl ended)) up = sym (ap (λ (t : State). t.down) ended.after ∙ (good_end ended.ticket s).down) ∙ up
 reap_up s d s' d' (inl (inr none)) up = sym (ap (λ (t : State). t.down) none.1) ∙ up
 reap_up s d s' d' (inr ended) up = absurd (down_not_up s d s' d' ended up)
 

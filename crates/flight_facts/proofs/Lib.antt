@@ -4,6 +4,9 @@ pub mod Lists
 pub mod Pieces
 pub mod Flying
 pub mod Landing
+pub mod OfJobs
+pub mod Ends
+pub mod Leaves
 pub mod Underway
 pub mod RunUnits
 pub mod RunPlaces

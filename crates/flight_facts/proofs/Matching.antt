@@ -11,6 +11,7 @@ use Rattle.store_steps.specs.Prelude.{Batch, State, batch_ops, flush_sent, recor
 use Rattle.flight_facts.specs.Prelude.{IsUnderWay, units_for, units_flying, is_data, log_flying, IsPartGiven, IsBatchOpen, IsLogFar, IsWriteOf, IsPieceOf, IsOfJob, AreOfJobs, FlightsMatch}
 use Rattle.flight_facts.proofs.Untouched.{all_then, apart_before, apart_behind}
 use Rattle.flight_facts.proofs.Landing.{units_both, log_both, jobs_then, jobs_sent}
+use Rattle.flight_facts.proofs.OfJobs.{job_then}
 use Rattle.flight_facts.proofs.Underway.{flushing, flush_way, seal_way, record_way, sync_way, synced_way}
 
 -- what is in flight is what the state says
@@ -42,13 +43,8 @@ pub jobs_change : (m m' : Meta) (pending later : List Context)
     → AreOfJobs m pending flying flights → AreOfJobs m' later flying flights
 jobs_change m m' pending later writes pieces flying flights =
     jobs_then m m' pending later flying flights
-    (every (λ f. (g : Flight) → IsOfJob m pending f.job g → IsOfJob m' later f.job g) (λ f g. by f.job g) flying)
-  where
-    by : (j : Job) (g : Flight) → IsOfJob m pending j g → IsOfJob m' later j g
-    by (job.Data place count) g is = writes place count g is
-    by job.Record g is = pieces g is
-    by job.DataFlush g is = is
-    by job.RecordFlush g is = is
+    (every (λ f. (g : Flight) → IsOfJob m pending f.job g → IsOfJob m' later f.job g)
+    (λ f g. job_then m m' pending later f.job g (λ place count its. writes place count g) (λ its. pieces g)) flying)
 
 -- ---- the log, where a batch is open
 
@@ -207,18 +203,17 @@ only_data (f ∷ fs) none = of_test (λ e. only_data fs e) (is_data f.job) refl 
     of_test rest true e n = (e, rest n)
     of_test rest false e n = absurd (cc)
 
-data_jobs : (m m' : Meta) (pending : List Context) (j : Job) (g : Flight) → is_data j ≡ true → IsOfJob m pending j g → IsOfJob m' pending j g
-data_jobs m m' pending (job.Data place count) g is of = of
-data_jobs m m' pending job.Record g is of = absurd (cc)
-data_jobs m m' pending job.DataFlush g is of = of
-data_jobs m m' pending job.RecordFlush g is of = of
+-- a data write is no piece of a record
+not_piece : (j : Job) → is_data j ≡ true → j ≡ job.Record → ⊥
+not_piece j is its = let other : is_data j ≡ false = ap is_data its in cc
 
 -- so what flies touches what it touches, whatever the log is
 pub data_alone : (m m' : Meta) (pending : List Context) (flying : List Flying) (flights : List Flight) → log_flying flying ≡ []
     → AreOfJobs m pending flying flights → AreOfJobs m' pending flying flights
 data_alone m m' pending flying flights none = jobs_then m m' pending pending flying flights
     (all_then (λ f. is_data f.job ≡ true) (λ f. (g : Flight) → IsOfJob m pending f.job g → IsOfJob m' pending f.job g)
-    (λ f e g of. data_jobs m m' pending f.job g e of) flying (only_data flying none))
+    (λ f e g of. job_then m m' pending pending f.job g (λ place count its write. write) (λ its piece. absurd (not_piece f.job e its)) of) flying
+    (only_data flying none))
 
 pub commit_matches : (s : State) (flights : List Flight) (b : Batch) → Matches s flights → s.batch ≡ Some b → is_flushed b.second ≡ true
     → Matches (committed_batch b s) flights

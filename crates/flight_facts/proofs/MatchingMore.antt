@@ -13,6 +13,7 @@ use Rattle.flight_facts.proofs.RunPlaces.{run_whole}
 use Rattle.flight_facts.proofs.Lists.{all_left, all_right, all_join, StandsIn, any_stands, stands_any, any_front, all_at, AreElsewhere, elsewhere, with_in, without_in}
 use Rattle.flight_facts.proofs.Flying.{others_of}
 use Rattle.flight_facts.proofs.Landing.{units_both, log_both, IsLeftOut, jobs_then, jobs_sent, jobs_left, IsFlown, jobs_found}
+use Rattle.flight_facts.proofs.OfJobs.{Touched, by_write, by_piece, by_none, touched, job_then}
 use Rattle.flight_facts.proofs.Underway.{flushing, Flies, first_flies, piece_flies, second_flies, what_flies, first_ended, no_front}
 use Rattle.flight_facts.proofs.Choosing.{IsFirst, chosen_first}
 use Rattle.flight_facts.proofs.Matching.{Matches, every, waiting_same, jobs_change}
@@ -179,23 +180,26 @@ none_flies place (f ∷ fs) none = (first (units_for place f.job) (units_flying 
 -- what flies of none of a context's units is a write of another
 less_job : (m : Meta) (front : List Context) (x : Context) (back : List Context) (j : Job) (g : Flight) → units_for x.place j ≡ 0
     → IsOfJob m (front ++ x ∷ back) j g → IsOfJob m (front ++ back) j g
-less_job m front x back (job.Data place count) g none w = record { some = w.some; of = from front w.of }
+less_job m front x back j g none = job_then m m (front ++ x ∷ back) (front ++ back) j g
+    (λ place count its w. record {
+      some = w.some;
+      of = from place count w.some (sym (ap (λ (k : Job). units_for x.place k) its) ∙ none) front w.of;
+    })
+    (λ its piece. piece)
   where
-    full : (a : ℕ) → a ≡ place → units_for a (job.Data place count) ≡ count
-    full a is = ap (λ (b : Bool). cond b count 0) (eq-eqb place a (sym is))
+    full : (a place count : ℕ) → a ≡ place → units_for a (job.Data place count) ≡ count
+    full a place count is = ap (λ (b : Bool). cond b count 0) (eq-eqb place a (sym is))
 
     never : (n m : ℕ) → n ≡ 0 → n ≡ m → 0 < m → ⊥
     never n m is same some = omega (arith, is, same, some)
 
-    from : (fs : List Context) → AnyByRecursion (λ z. (z.place ≡ place) × TouchesGiven z g) (fs ++ x ∷ back)
+    from : (place count : ℕ) → 0 < count → units_for x.place (job.Data place count) ≡ 0 → (fs : List Context)
+        → AnyByRecursion (λ z. (z.place ≡ place) × TouchesGiven z g) (fs ++ x ∷ back)
         → AnyByRecursion (λ z. (z.place ≡ place) × TouchesGiven z g) (fs ++ back)
-    from [] (inl here) = absurd (never _ count none (full x.place here.0) w.some)
-    from [] (inr rest) = rest
-    from (f ∷ fs) (inl here) = inl here
-    from (f ∷ fs) (inr rest) = inr (from fs rest)
-less_job m front x back job.Record g none is = is
-less_job m front x back job.DataFlush g none is = is
-less_job m front x back job.RecordFlush g none is = is
+    from place count some is [] (inl here) = absurd (never _ count is (full x.place place count here.0) some)
+    from place count some is [] (inr rest) = rest
+    from place count some is (f ∷ fs) (inl here) = inl here
+    from place count some is (f ∷ fs) (inr rest) = inr (from place count some is fs rest)
 
 all_out : (P : ℕ → Type 0) (front : List Context) (x : Context) (back : List Context)
     → AllByRecursion P (map (λ z. z.place) (front ++ x ∷ back)) → AllByRecursion P (map (λ z. z.place) (front ++ back))
@@ -449,7 +453,7 @@ none_of_new : (m : Meta) (pending : List Context) (n : ℕ) (flying : List Flyin
     → AreOfJobs m pending flying flights → units_flying n flying ≡ 0
 none_of_new m pending n [] flights below are = refl
 none_of_new m pending n (f ∷ fs) [] below are = absurd are
-none_of_new m pending n (f ∷ fs) (g ∷ gs) below are = sum (units_for n f.job) (units_flying n fs) (by f.job are.0) (none_of_new m pending n fs gs below are.1)
+none_of_new m pending n (f ∷ fs) (g ∷ gs) below are = sum (units_for n f.job) (units_flying n fs) (by (touched m pending f.job g are.0)) (none_of_new m pending n fs gs below are.1)
   where
     sum : (a b : ℕ) → a ≡ 0 → b ≡ 0 → a + b ≡ 0
     sum a b is is' = omega (arith, is, is')
@@ -459,14 +463,14 @@ none_of_new m pending n (f ∷ fs) (g ∷ gs) below are = sum (units_for n f.job
     low place (x ∷ xs) all (inl here) = subst (λ (p : ℕ). p < n) here.0 all.0
     low place (x ∷ xs) all (inr more) = low place xs all.1 more
 
-    by : (j : Job) → IsOfJob m pending j g → units_for n j ≡ 0
-    by (job.Data place count) w = ap (λ (b : Bool). cond b count 0) (ne_eqb place n (λ same. apart place n (low place pending below w.of) same))
+    by : Touched m pending f.job g → units_for n f.job ≡ 0
+    by (by_write place count its w) = ap (λ (j : Job). units_for n j) its
+        ∙ ap (λ (b : Bool). cond b count 0) (ne_eqb place n (λ same. apart place n (low place pending below w.of) same))
       where
         apart : (a b : ℕ) → a < b → a ≡ b → ⊥
         apart a b lt is = omega (arith, lt, is)
-    by job.Record is = refl
-    by job.DataFlush is = refl
-    by job.RecordFlush is = refl
+    by (by_piece its piece) = ap (λ (j : Job). units_for n j) its
+    by (by_none empty still none) = none n
 
 pub one_more_waits : (m m' : Meta) (entries : ℕ) (pending : List Context) (batch : Option Batch) (flying : List Flying) (flights : List Flight) (x : Context)
     → x.place ≡ entries → x.given ≡ 0 → x.done ≡ 0 → m' ≡ record m { reserved = m'.reserved } → FlightsMatch m entries pending batch flying flights

@@ -1,12 +1,13 @@
 -- What a step leaves: it has stepped, or waited, or a submission has ended badly; and that it leaves less work.
-use Rattle.std.proofs.Common.{◌≡◌, inl, inr, ℕ, ◌+◌, ◌-◌, ◌*◌, ◌<◌, ◌==◌, true, false, not, List, [], ◌∷◌, length, Option, Some, None, is_some, is_none, refl, sym, ap, subst, ◌∙◌, arith}
-use Rattle.flight_facts.proofs.Common.{option_map_or, and_parts, Disk, Flight, Waited, Ticket, Flying, Step, is_flushed}
+use Rattle.std.proofs.Common.{◌≡◌, inl, inr, ℕ, ◌+◌, ◌-◌, ◌*◌, ◌<◌, ◌==◌, true, false, not, List, [], ◌∷◌, length, Some, None, is_some, is_none, sym, ap, subst, ◌∙◌, arith}
+use Rattle.flight_facts.proofs.Common.{option_map_or, and_parts, Disk, Flight, Waited, Flying, Step, is_flushed}
 use Rattle.store_steps.specs.declared.step.Step.TheVariants.{Data, Reap, Take, Flush, Seal, Record, Sync, Commit, Finish}
-use Rattle.store_steps.specs.Prelude.{State, chosen, down_by, landed, is_ready, is_ready_up, is_ready_down, is_empty, pieces_of, applied_count, Takes, DoesOrFails}
+use Rattle.store_steps.specs.Prelude.{State, chosen, landed, is_ready, is_ready_up, is_ready_down, is_empty, pieces_of, applied_count, Takes, DoesOrFails}
 use Rattle.flight_facts.specs.Prelude.{AreFlights, FlightsMatch, sum_work, batch_work, work_left, measure, AreFlightsKnown}
 use Rattle.flight_facts.proofs.Flying.{others_of, Landed, landed_flight}
 use Rattle.flight_facts.proofs.Readiness.{Readiness, while_up, while_down, ready_cases}
 use Rattle.flight_facts.proofs.Matching.{Matches}
+use Rattle.flight_facts.proofs.Leaves.{down_is_some}
 use Rattle.flight_facts.proofs.Downs.{Ends, bad_end, late_end}
 use Rattle.flight_facts.proofs.MatchingSteps.{some_is, none_is, record_tests, sync_tests, seal_none, data_does, reap_does, take_does, flush_does, seal_does, record_does, sync_does, commit_does, finish_does, waited_does}
 use Rattle.flight_facts.proofs.Paying.{Paid, data_pays, reap_pays, take_pays, flush_pays, sync_pays, seal_pays, record_pays, commit_pays, finish_pays}
@@ -35,10 +36,6 @@ pub record GoneDown (s : State) (d : Disk) (s' : State) (d' : Disk) : Type 0 whe
   pub ends : Ends s d s' d'
   pub down : is_some s'.down ≡ true
   pub falls : work_left s' < work_left s
-
-down_is_some : (o : Option Ticket) (ticket : Ticket) → is_some (down_by o ticket) ≡ true
-down_is_some None ticket = refl
-down_is_some (Some first) ticket = refl
 
 falls_with : (s : State) (d : Disk) (s' : State) (d' : Disk) → AreFlights s.flying d.flights → (e : Ends s d s' d') → is_some e.down ≡ true
     → GoneDown s d s' d'

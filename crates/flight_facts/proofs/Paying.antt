@@ -1,16 +1,17 @@
 -- What each step pays: it leaves less work, for any number of contexts, and what else it does to the device and to the counts.
-use Rattle.std.proofs.Common.{◌≡◌, ℕ, ◌+◌, ◌-◌, ◌*◌, ◌<◌, ◌≤◌, ◌==◌, Bool, true, false, cond, suc, List, [], ◌∷◌, ◌++◌, length, Option, Some, None, is_some, refl, sym, ap, subst, ◌∙◌, append-nil, arith}
-use Rattle.flight_facts.proofs.Common.{AllByRecursion, option_map, option_map_or, ltb-true, Disk, Ticket, unit_count, piece_count, RowOp, Context, Flying, Job, Meta, Begun}
+use Rattle.std.proofs.Common.{◌≡◌, ℕ, ◌+◌, ◌-◌, ◌*◌, ◌<◌, ◌≤◌, Bool, true, false, cond, suc, List, [], ◌∷◌, ◌++◌, length, Option, Some, None, is_some, refl, sym, ap, subst, ◌∙◌, append-nil, arith}
+use Rattle.flight_facts.proofs.Common.{AllByRecursion, option_map_or, ltb-true, Disk, Ticket, unit_count, piece_count, RowOp, Context, Flying, Job, Meta, Begun}
 use Rattle.object_model.specs.declared.book.Commit.{Commit}
 use Rattle.block_device.specs.declared.event.Event.{Event}
 use Rattle.block_device.specs.declared.event.Event.TheVariants as event
 use Rattle.store_steps.specs.declared.flight.FlushState.TheVariants as flush
 use Rattle.store_steps.specs.declared.flight.Job.TheVariants as job
 use Rattle.store_steps.specs.declared.step.Step.TheVariants.{Flush, Record, Sync, Finish}
-use Rattle.store_steps.specs.Prelude.{Batch, State, Unsent, unsent_units, run_bytes, given_more, done_more, with_context, without_context, batch_ops, after_done, first_flushed, second_flushed, written_more, record_sent, sealed, commit_of, acknowledged, is_not_sent, pieces_of, applied_count, is_ready_up, Takes, DoesData, DoesTake, DoesFlush, DoesSeal, DoesRecord, DoesSync, DoesCommit, DoesFinish, piece_unit, piece_bytes, intent_of}
+use Rattle.store_steps.specs.Prelude.{Batch, State, Unsent, unsent_units, run_bytes, given_more, with_context, without_context, batch_ops, after_done, record_sent, sealed, commit_of, acknowledged, is_not_sent, pieces_of, applied_count, is_ready_up, Takes, DoesData, DoesTake, DoesFlush, DoesSeal, DoesRecord, DoesSync, DoesCommit, DoesFinish, piece_unit, piece_bytes, intent_of}
 use Rattle.flight_facts.specs.Prelude.{AreFlights, IsLogFar, log_flying, FitsRecord, work_of, sum_work, flush_work, record_work, batch_work, work_left}
 use Rattle.flight_facts.proofs.Flying.{sent_flight, sent_units, others_of, Landed, landed_flight, reaped_good}
 use Rattle.flight_facts.proofs.Landing.{IsLeftOut, left_out}
+use Rattle.flight_facts.proofs.Ends.{DoneLeaves, done_alone, done_leaves}
 use Rattle.flight_facts.proofs.Lists.{StandsIn, with_in, without_in, all_at, length_push, length_middle}
 use Rattle.flight_facts.proofs.RunUnits.{IsRunOf}
 use Rattle.flight_facts.proofs.Choosing.{IsFirst, chosen_first}
@@ -42,23 +43,6 @@ sum_both (x ∷ xs) ys = omega (arith, sum_both xs ys)
 sum_middle : (front : List Context) (x : Context) (back : List Context) → sum_work (front ++ x ∷ back) ≡ sum_work front + (work_of x + sum_work back)
 sum_middle front x back = sum_both front (x ∷ back)
 
--- contexts as many, of as much work
-pub record AreAsMany (xs ys : List Context) : Type 0 where
-  pub work : sum_work ys ≡ sum_work xs
-  pub count : length ys ≡ length xs
-
--- what has ended of a context doesn't change its work
-done_as_many : (place count : ℕ) (xs : List Context) → AreAsMany xs (with_context place (done_more count) xs)
-done_as_many place count [] = record { work = refl; count = refl }
-done_as_many place count (x ∷ xs) =
-    let rest : AreAsMany xs (with_context place (done_more count) xs) = done_as_many place count xs in
-    record { work = of_test (x.place == place) rest.work; count = ap suc rest.count }
-  where
-    of_test : (b : Bool) → sum_work (with_context place (done_more count) xs) ≡ sum_work xs
-        → sum_work (cond b (done_more count x) x ∷ with_context place (done_more count) xs) ≡ sum_work (x ∷ xs)
-    of_test true rest = ap (λ (n : ℕ). work_of x + n) rest
-    of_test false rest = ap (λ (n : ℕ). work_of x + n) rest
-
 -- as many commits, whichever are acknowledged
 pub acknowledged_length : (events : ℕ) (cs : List Commit) → length (acknowledged events cs) ≡ length cs
 acknowledged_length events [] = refl
@@ -83,30 +67,6 @@ first_paid b ticket was = let is : ◌≡◌ {A = ℕ} (cond (is_not_sent b.firs
 
 second_paid : (b : Batch) (ticket : Ticket) → is_not_sent b.second ≡ true → flush_work (record b { second = flush.Sent ticket }) + 2 ≡ flush_work b
 second_paid b ticket was = let is : ◌≡◌ {A = ℕ} (cond (is_not_sent b.second) 2 0) 2 = ap (λ (t : Bool). cond t 2 0) was in omega (arith, is)
-
--- one whose end has come costs no more than before
-less_flush : (t : Bool) → cond false 2 0 ≤ cond t 2 0
-less_flush true = omega arith
-less_flush false = omega arith
-
-first_ended : (m : Meta) (o : Option Batch) → option_map_or (batch_work m) (option_map first_flushed o) 0 ≤ option_map_or (batch_work m) o 0
-first_ended m None = omega arith
-first_ended m (Some b) = sums _ _ _ _ _ (less_flush (is_not_sent b.first))
-  where
-    sums : (a a' c r n : ℕ) → a' ≤ a → ((a' + c) + r + 1) + n ≤ ((a + c) + r + 1) + n
-    sums a a' c r n le = omega (arith, le)
-
-second_ended : (m : Meta) (o : Option Batch) → option_map_or (batch_work m) (option_map second_flushed o) 0 ≤ option_map_or (batch_work m) o 0
-second_ended m None = omega arith
-second_ended m (Some b) = sums _ _ _ _ _ (less_flush (is_not_sent b.second))
-  where
-    sums : (a a' c r n : ℕ) → a' ≤ a → ((c + a') + r + 1) + n ≤ ((c + a) + r + 1) + n
-    sums a a' c r n le = omega (arith, le)
-
-same_commits : (f : Batch → Batch) → ((b : Batch) → (f b).contexts ≡ b.contexts) → (o : Option Batch)
-    → option_map_or (λ (b : Batch). length b.contexts) (option_map f o) 0 ≡ option_map_or (λ (b : Batch). length b.contexts) o 0
-same_commits f same None = refl
-same_commits f same (Some b) = ap (λ (xs : List Context). length xs) (same b)
 
 -- ---- Data
 
@@ -143,71 +103,25 @@ module _ (s : State) (d : Disk) where
   reap_pays s' d' mirror up ended =
       let land : Landed s.flying ended.ticket d d' = landed_flight d d' ended.ticket true s.flying mirror ended.ended in
       let out : IsLeftOut ended.ticket s.flying = left_out ended.ticket s.flying land.fewer in
-      subst (λ (t : State). Paid s d t d') (sym (ended.after ∙ reaped_good s ended.ticket out.flight up out.found)) (of_job land out.flight.job)
+      let j : Job = out.flight.job in
+      let u : State = record s { flying = others_of ended.ticket s.flying; events = s.events + 1 } in
+      let left : DoneLeaves u (after_done j u) = done_leaves j u in
+      subst (λ (t : State). Paid s d t d') (sym (ended.after ∙ reaped_good s ended.ticket out.flight up out.found ∙ done_alone j u)) (record {
+        falls = ending (length (others_of ended.ticket s.flying)) (length s.flying) (sum_work s.pending) (sum_work (after_done j u).pending)
+            (option_map_or (batch_work s.log) s.batch 0)
+            (option_map_or (batch_work (record s.log { begun = (after_done j u).log.begun })) (after_done j u).batch 0) (length s.book.commits)
+            (option_map_or (λ (b : Batch). length b.contexts) s.batch 0)
+            (option_map_or (λ (b : Batch). length b.contexts) (after_done j u).batch 0) s.acked land.fewer left.work left.batch left.contexts;
+        flights = land.flights;
+        units = land.units;
+        near = record { entries = refl; under = ap (λ (k : ℕ). length s.book.commits + k) left.many; events = omega arith; number = omega arith; up = refl };
+      })
     where
-      less : (rest all work batch batch' left : ℕ) → rest + 1 ≡ all → batch' ≤ batch → rest + work + batch' + left < all + work + batch + left
-      less rest all work batch batch' left is le = omega (arith, is, le)
-
-      lesser : (rest all work work' batch left : ℕ) → rest + 1 ≡ all → work' ≡ work → rest + work' + batch + left < all + work + batch + left
-      lesser rest all work work' batch left is same = omega (arith, is, same)
-
-      ending : (rest all work batch batch' commits gone gone' acked : ℕ) → rest + 1 ≡ all → batch' ≤ batch → gone' ≡ gone
-          → rest + work + batch' + ((commits - gone') - acked) < all + work + batch + ((commits - gone) - acked)
-      ending rest all work batch batch' commits gone gone' acked is le same =
-          subst (λ (n : ℕ). rest + work + batch' + ((commits - n) - acked) < all + work + batch + ((commits - gone) - acked)) (sym same) (omega (arith, is, le))
-
-      written_work : (b : Batch) (o : Option Begun)
-          → option_map_or (λ (r : Begun). 2 * (piece_count (unit_count s.log.number r.ops) - r.given)) (option_map written_more o)
-          (1 + 2 * piece_count (unit_count s.log.number (batch_ops b)))
-          ≡ option_map_or (λ (r : Begun). 2 * (piece_count (unit_count s.log.number r.ops) - r.given)) o (1 + 2 * piece_count (unit_count s.log.number (batch_ops b)))
-      written_work b None = refl
-      written_work b (Some r) = refl
-
-      written_batch : (o : Option Batch) → option_map_or (batch_work (record s.log { begun = option_map written_more s.log.begun })) o 0
-          ≡ option_map_or (batch_work s.log) o 0
-      written_batch None = refl
-      written_batch (Some b) = ap (λ (n : ℕ). flush_work b + n + 1 + length b.contexts) (written_work b s.log.begun)
-
-      of_job : (land : Landed s.flying ended.ticket d d') (j : Job)
-          → (let t : State = record s { flying = others_of ended.ticket s.flying; events = s.events + 1 } in Paid s d (after_done j t) d')
-      of_job land (job.Data place count) =
-          let many : AreAsMany s.pending (with_context place (done_more count) s.pending) = done_as_many place count s.pending in
-          record {
-            falls = lesser (length (others_of ended.ticket s.flying)) (length s.flying) (sum_work s.pending) (sum_work (with_context place (done_more count) s.pending))
-                (option_map_or (batch_work s.log) s.batch 0) (applied_count s - s.acked) land.fewer many.work;
-            flights = land.flights;
-            units = land.units;
-            near = record { entries = refl; under = ap (λ (k : ℕ). length s.book.commits + k) many.count; events = omega arith; number = omega arith; up = refl };
-          }
-      of_job land job.DataFlush = record {
-        falls = ending (length (others_of ended.ticket s.flying)) (length s.flying) (sum_work s.pending) (option_map_or (batch_work s.log) s.batch 0)
-            (option_map_or (batch_work s.log) (option_map first_flushed s.batch) 0) (length s.book.commits) (option_map_or (λ (b : Batch). length b.contexts) s.batch 0)
-            (option_map_or (λ (b : Batch). length b.contexts) (option_map first_flushed s.batch) 0) s.acked land.fewer (first_ended s.log s.batch)
-            (same_commits first_flushed (λ b. refl) s.batch);
-        flights = land.flights;
-        units = land.units;
-        near = record { entries = refl; under = refl; events = omega arith; number = omega arith; up = refl };
-      }
-      of_job land job.Record = record {
-        falls = less (length (others_of ended.ticket s.flying)) (length s.flying) (sum_work s.pending) (option_map_or (batch_work s.log) s.batch 0)
-            (option_map_or (batch_work (record s.log { begun = option_map written_more s.log.begun })) s.batch 0) (applied_count s - s.acked) land.fewer
-            (most _ _ (written_batch s.batch));
-        flights = land.flights;
-        units = land.units;
-        near = record { entries = refl; under = refl; events = omega arith; number = omega arith; up = refl };
-      }
-        where
-          most : (a b : ℕ) → a ≡ b → a ≤ b
-          most a b is = omega (arith, is)
-      of_job land job.RecordFlush = record {
-        falls = ending (length (others_of ended.ticket s.flying)) (length s.flying) (sum_work s.pending) (option_map_or (batch_work s.log) s.batch 0)
-            (option_map_or (batch_work s.log) (option_map second_flushed s.batch) 0) (length s.book.commits) (option_map_or (λ (b : Batch). length b.contexts) s.batch 0)
-            (option_map_or (λ (b : Batch). length b.contexts) (option_map second_flushed s.batch) 0) s.acked land.fewer (second_ended s.log s.batch)
-            (same_commits second_flushed (λ b. refl) s.batch);
-        flights = land.flights;
-        units = land.units;
-        near = record { entries = refl; under = refl; events = omega arith; number = omega arith; up = refl };
-      }
+      ending : (rest all work work' batch batch' commits gone gone' acked : ℕ) → rest + 1 ≡ all → work' ≡ work → batch' ≤ batch → gone' ≡ gone
+          → rest + work' + batch' + ((commits - gone') - acked) < all + work + batch + ((commits - gone) - acked)
+      ending rest all work work' batch batch' commits gone gone' acked is still le same =
+          subst (λ (n : ℕ). rest + work' + batch' + ((commits - n) - acked) < all + work + batch + ((commits - gone) - acked)) (sym same)
+          (omega (arith, is, still, le))
 
   -- ---- Take
 

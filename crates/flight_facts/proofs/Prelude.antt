@@ -1,5 +1,7 @@
 -- The lemmas that other crates cite, passed on from one place.
 pub use Rattle.flight_facts.proofs.Flying.{idle_device, same_count, Landed, landed_flight, reaped_good, others_of}
+pub use Rattle.flight_facts.proofs.Ends.{intents_kept, good_end, end_book}
+pub use Rattle.flight_facts.proofs.Leaves.{does_well, device_goes, book_step, step_entries, stays_up, goes_down}
 pub use Rattle.flight_facts.proofs.Untouched.{all_then, run_untouched}
 pub use Rattle.flight_facts.proofs.Lists.{all_left, all_right, all_join, all_take, StandsIn, with_in, without_in, all_at}
 pub use Rattle.flight_facts.proofs.Landing.{IsLeftOut, left_out}

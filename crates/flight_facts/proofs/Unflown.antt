@@ -1,13 +1,13 @@
 -- The units that are in no flight.
 use Rattle.std.proofs.Common.{◌≡◌, inl, inr, ℕ, ◌+◌, ◌<◌, ◌≤◌, true, List, [], ◌∷◌, ◌++◌, map, take, drop, Option, Some, None, IfSome, sym, subst, arith}
-use Rattle.flight_facts.proofs.Common.{AllByRecursion, Ascends, Flight, IsApart, IsUntouched, RowOp, unit_count, active_unit, given_from, FreshUnit, Context, FlushState, Flying, Job, Meta, Begun}
+use Rattle.flight_facts.proofs.Common.{AllByRecursion, Ascends, Flight, IsApart, IsUntouched, RowOp, unit_count, active_unit, given_from, FreshUnit, Context, FlushState, Flying, Meta, Begun}
 use Rattle.std.proofs.lemmas.List.Elements.{All-cons, All-nil}
 use Rattle.std.proofs.lemmas.List.{take-append-drop}
 use Rattle.meta_log.proofs.PieceLemmas.{given_from-none}
 use Rattle.store_steps.specs.declared.flight.FlushState.TheVariants as flush
-use Rattle.store_steps.specs.declared.flight.Job.TheVariants as job
 use Rattle.store_steps.specs.Prelude.{Batch, State, batch_ops, is_not_sent, pieces_of, intent_of}
-use Rattle.flight_facts.specs.Prelude.{IsNotGiven, IsUnderWay, log_flying, IsNone, TouchesGiven, AnyByRecursion, IsGivenPiece, IsPieceOf, IsOfJob, AreOfJobs, FitsRecord}
+use Rattle.flight_facts.specs.Prelude.{IsNotGiven, IsUnderWay, log_flying, IsNone, TouchesGiven, AnyByRecursion, IsGivenPiece, IsPieceOf, AreOfJobs, FitsRecord}
+use Rattle.flight_facts.proofs.OfJobs.{Touched, by_write, by_piece, by_none, touched}
 use Rattle.flight_facts.proofs.Underway.{all_written}
 use Rattle.flight_facts.proofs.Matching.{Matches, open_far, begun_far, data_alone}
 
@@ -17,7 +17,7 @@ pub unflown : (m : Meta) (pending : List Context) (flying : List Flying) (flight
     → AllByRecursion (λ x. IsNone (take x.given x.fresh) unit) pending → IfSome m.begun (λ r. ¬ IsGivenPiece m r unit) → IsUntouched flights unit
 unflown m pending [] [] unit are none piece = All-nil (IsApart unit 4096)
 unflown m pending (f ∷ fs) (g ∷ gs) unit are none piece =
-    All-cons (IsApart unit 4096) g gs (by f.job are.0) (unflown m pending fs gs unit are.1 none piece)
+    All-cons (IsApart unit 4096) g gs (by (touched m pending f.job g are.0)) (unflown m pending fs gs unit are.1 none piece)
   where
     of_piece : (o : Option Begun) → IsPieceOf m o g → IfSome o (λ r. ¬ IsGivenPiece m r unit) → IsApart unit 4096 g
     of_piece None is out = absurd is
@@ -29,11 +29,10 @@ unflown m pending (f ∷ fs) (g ∷ gs) unit are none piece =
     of_write place (x ∷ xs) (inl here) out = here.1 unit out.0
     of_write place (x ∷ xs) (inr more) out = of_write place xs more out.1
 
-    by : (j : Job) → IsOfJob m pending j g → IsApart unit 4096 g
-    by (job.Data place count) is = of_write place pending is.of none
-    by job.Record is = of_piece m.begun is piece
-    by job.DataFlush is = inl is
-    by job.RecordFlush is = inl is
+    by : Touched m pending f.job g → IsApart unit 4096 g
+    by (by_write place count its write) = of_write place pending write.of none
+    by (by_piece its of) = of_piece m.begun of piece
+    by (by_none empty still no_units) = inl empty
 unflown m pending fs gs unit are none piece = absurd are
 
 -- ---- what is written next isn't in flight

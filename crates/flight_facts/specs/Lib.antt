@@ -3,4 +3,5 @@ pub mod Jobs
 pub mod Records
 pub mod Work
 pub mod Known
+pub mod Leaves
 pub mod Prelude

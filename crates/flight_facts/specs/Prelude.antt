@@ -4,3 +4,4 @@ pub use Rattle.flight_facts.specs.Jobs.{units_for, units_flying, IsPartGiven, Is
 pub use Rattle.flight_facts.specs.Records.{FitsRecord}
 pub use Rattle.flight_facts.specs.Work.{work_of, sum_work, flush_work, record_work, batch_work, work_left, measure, entry_work, budget}
 pub use Rattle.flight_facts.specs.Known.{AreFlightsKnown}
+pub use Rattle.flight_facts.specs.Leaves.{DeviceGoes, rests, submits, takes_end, gives_none, BookStep, book_same, book_commits, book_acks}

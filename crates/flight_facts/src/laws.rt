@@ -1,5 +1,5 @@
 //! What is in flight, as steps come and go. Each function has laws for its contract and does nothing.
-ghost use Rattle.std.specs.Prelude.{◌≡◌, ℕ, ◌+◌, ◌<◌, ◌≤◌, true, List, [], ◌∷◌, ◌++◌, length, take, drop, Option, Some, None, IfSome};
+ghost use Rattle.std.specs.Prelude.{◌≡◌, ℕ, ◌+◌, ◌<◌, ◌≤◌, true, false, List, [], ◌∷◌, ◌++◌, length, take, drop, Option, Some, None, is_some, IfSome};
 ghost use Rattle.std.specs.List.{AllByRecursion};
 ghost use Rattle.block_device.specs.Prelude.{Disk, Flight, IsUntouched};
 ghost use Rattle.meta_log.specs.Prelude.{unit_count, active_unit, given_from};
@@ -7,8 +7,8 @@ ghost use Rattle.store_steps.specs.declared.step.Step.{Step};
 ghost use Rattle.store_steps.specs.declared.context.Context.{Context};
 ghost use Rattle.store_steps.specs.declared.flight.Flying.{Flying};
 ghost use Rattle.meta_store.specs.Store.{Meta, Begun};
-ghost use Rattle.store_steps.specs.Prelude.{Batch, State, is_not_sent, pieces_of, is_ready, is_drained, intent_of, DoesOrFails};
-ghost use Rattle.flight_facts.specs.Prelude.{AreFlights, IsNone, IsGivenPiece, AreOfJobs, FlightsMatch, FitsRecord, measure, AreFlightsKnown};
+ghost use Rattle.store_steps.specs.Prelude.{Batch, State, is_not_sent, pieces_of, is_ready, is_drained, intent_of, Takes, Does, DoesOrFails};
+ghost use Rattle.flight_facts.specs.Prelude.{AreFlights, IsNone, IsGivenPiece, AreOfJobs, FlightsMatch, FitsRecord, measure, AreFlightsKnown, DeviceGoes, BookStep};
 
 /// Each step that is ready leaves in flight what the device has in flight, whatever it answers, and part by part too where the kernel stays up. It
 /// leaves less to do, or fewer answers None in a row.
@@ -21,6 +21,15 @@ pub fn steps_match()
         → FlightsMatch s'.log (length s'.book.entries) s'.pending s'.batch s'.flying d'.flights }
     ensures less { (step : Step) (s s' : State) (d d' : Disk) → AreFlightsKnown s d → is_ready step d.depth s ≡ true
         → DoesOrFails step s d s' d' → measure s' d'.waits < measure s d.waits }
+{}
+
+/// What a step leaves, whatever is known of the state that it meets: at the device nothing, a submission, the end of one, or an answer None; the
+/// book as it was, but for the commit of a batch that is opened, and an acknowledgement. Whether the kernel is down changes by a bad end alone.
+pub fn a_step_leaves_device_and_book()
+    ensures device { (step : Step) (s : State) (d : Disk) (s' : State) (d' : Disk) → DoesOrFails step s d s' d' → DeviceGoes d d' }
+    ensures book { (step : Step) (s : State) (d : Disk) (s' : State) (d' : Disk) → DoesOrFails step s d s' d' → BookStep s s' step }
+    ensures up { (step : Step) (s : State) (d : Disk) (s' : State) (d' : Disk) → Does step s d s' d' → s'.down ≡ s.down }
+    ensures down { (s : State) (d : Disk) (s' : State) (d' : Disk) → Takes s d false s' d' → is_some s'.down ≡ true }
 {}
 
 /// What is in flight, part by part, for any number of contexts under way: a context that joins those that wait, with none of its units given, keeps

@@ -9,6 +9,6 @@
 mod laws;
 
 pub use laws::{
-    flights_match, flushed_units_have_landed, nothing_is_left_where_no_step_is_ready, steps_match,
-    what_is_left_is_not_given,
+    a_step_leaves_device_and_book, flights_match, flushed_units_have_landed,
+    nothing_is_left_where_no_step_is_ready, steps_match, what_is_left_is_not_given,
 };

@@ -8,13 +8,13 @@ use Rattle.store_steps.specs.RowsGo as rows
 use Rattle.store_steps.specs.DataGoes as units
 use Rattle.store_steps.specs.HalfGoes as half
 use Rattle.store_steps.specs.BookGoes as book
-use Rattle.flight_facts.proofs.Prelude.{all_then, all_join, IsRunOf, given_units, row_at, row_bytes, run_has, run_inside, given_before, earlier_spared, ready_not_down, with_in}
+use Rattle.flight_facts.proofs.Prelude.{intents_kept, all_then, all_join, IsRunOf, given_units, row_at, row_bytes, run_has, run_inside, given_before, earlier_spared, ready_not_down, with_in}
 use Rattle.run_facts.specs.Prelude.{IsKept}
 use Rattle.run_facts.proofs.Conditions.{ReadyData}
 use Rattle.run_facts.proofs.RowsFacts.{units_of, taken_by, next_on_data}
 use Rattle.run_facts.proofs.Apart.{fresh_taken, given_taken, taken_fresh, AreOthers, others_apart}
 use Rattle.run_facts.proofs.Known.{known_data}
-use Rattle.run_facts.proofs.PartsKept.{intents_kept, given_both}
+use Rattle.run_facts.proofs.PartsKept.{given_both}
 
 -- what is given of contexts of which one is in the middle
 given_middle : (batch front : List Context) (x : Context) (back : List Context)

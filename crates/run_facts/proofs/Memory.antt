@@ -1,7 +1,7 @@
 -- The bytes that reads find in memory: those of the units that transactions took which aren't committed. What each call makes of them, and that
 -- all other units of pages can be read.
 use Rattle.std.proofs.Common.{◌≡◌, ◌≢◌, ◌⊎◌, inl, inr, ℕ, Bool, true, false, cond, ◌==◌, List, [], ◌∷◌, ◌++◌, length, map, take, Contains, Option, Some, None, is_some, refl, sym, ap, subst, ◌∙◌}
-use Rattle.run_facts.proofs.Common.{AllByRecursion, flat_map, option_map, option_map_or, option_or, eq-eqb, ne_eqb, same_Some, Ascends, Ticket, Disk, IsUntouched, Change, width_of, IsDataUnit, free_units, FreshUnit, Plan, PlansKeep, IsKnown, Context, Job, Flying}
+use Rattle.run_facts.proofs.Common.{AllByRecursion, flat_map, option_map_or, option_or, eq-eqb, ne_eqb, same_Some, Ascends, Ticket, Disk, IsUntouched, Change, width_of, IsDataUnit, free_units, FreshUnit, Plan, PlansKeep, IsKnown, Context}
 use Rattle.std.proofs.lemmas.Bool.{cases_eq}
 use Rattle.std.proofs.lemmas.List.Concat.{flat_map-append}
 use Rattle.std.proofs.lemmas.List.Elements.{Contains-append_left}
@@ -10,14 +10,13 @@ use Rattle.store_image.specs.Prelude.{HasPage}
 use Rattle.store_image.proofs.Prelude.{page_owned}
 use Rattle.unit_allocator.proofs.FreeUnits.{listed_is_within}
 use Rattle.plan_rows.proofs.OnData.{owned_on_data}
-use Rattle.store_steps.specs.declared.flight.Job.TheVariants as job
-use Rattle.store_steps.specs.Prelude.{Batch, State, with_context, given_more, done_more, chosen, data_sent, first_flushed, second_flushed, after_done, after_good, flying_of, landed, reaped, taken_up, committed_batch, context_of, accepted_with, Accepts, Intent, intents, intent_of, uncommitted, all_fresh, bytes_in, memory_of}
+use Rattle.store_steps.specs.Prelude.{Batch, State, with_context, given_more, chosen, data_sent, reaped, taken_up, committed_batch, context_of, accepted_with, Accepts, Intent, intents, intent_of, uncommitted, all_fresh, bytes_in, memory_of}
 use Rattle.space_facts.proofs.Prelude.{in_or_not, listed_is_idle, taken_busy}
 use Rattle.flight_facts.specs.Prelude.{IsNone, FitsRecord}
-use Rattle.flight_facts.proofs.Prelude.{all_left, all_right, all_join, all_take, unflown, IsFirst, chosen_first}
+use Rattle.flight_facts.proofs.Prelude.{intents_kept, good_end, all_left, all_right, all_join, all_take, unflown, IsFirst, chosen_first}
 use Rattle.run_facts.specs.Prelude.{IsKept}
 use Rattle.run_facts.proofs.SpaceUnits.{within_data}
-use Rattle.run_facts.proofs.PartsKept.{intents_kept, flat_intents}
+use Rattle.run_facts.proofs.PartsKept.{flat_intents}
 use Rattle.run_facts.proofs.RowsFacts.{units_of, taken_by}
 use Rattle.run_facts.proofs.Apart.{fresh_taken, taken_fresh, parts_apart, batch_apart, not_in_record}
 use Rattle.run_facts.proofs.BatchFootprints.{before_it, behind_it}
@@ -183,31 +182,9 @@ pub memory_given : (place count : ℕ) (ticket : Ticket) (s : State) → memory_
 memory_given place count ticket s = memory_changed s place (given_more count) (λ x. refl)
 
 -- and at the end of a submission, whatever it was for
-memory_done : (j : Job) (s : State) → memory_of (after_done j s) ≡ memory_of s
-memory_done (job.Data place count) s = memory_changed s place (done_more count) (λ x. refl)
-memory_done job.DataFlush s = ap (λ (xs : List Context). bytes_in (all_fresh (xs ++ s.pending))) (still s.batch)
-  where
-    still : (o : Option Batch) → option_map_or (λ b. b.contexts) (option_map first_flushed o) [] ≡ option_map_or (λ b. b.contexts) o []
-    still None = refl
-    still (Some b) = refl
-memory_done job.Record s = refl
-memory_done job.RecordFlush s = ap (λ (xs : List Context). bytes_in (all_fresh (xs ++ s.pending))) (still s.batch)
-  where
-    still : (o : Option Batch) → option_map_or (λ b. b.contexts) (option_map second_flushed o) [] ≡ option_map_or (λ b. b.contexts) o []
-    still None = refl
-    still (Some b) = refl
-
 pub memory_reaped : (ticket : Ticket) (good : Bool) (s : State) → memory_of (reaped ticket good s) ≡ memory_of s
 memory_reaped ticket false s = refl
-memory_reaped ticket true s = by_test (is_some s.down)
-  where
-    of_flying : (o : Option Flying) → memory_of (after_good o (landed ticket s)) ≡ memory_of s
-    of_flying None = refl
-    of_flying (Some f) = memory_done f.job (landed ticket s)
-
-    by_test : (b : Bool) → memory_of (cond b (landed ticket s) (after_good (flying_of ticket s.flying) (landed ticket s))) ≡ memory_of s
-    by_test true = refl
-    by_test false = of_flying (flying_of ticket s.flying)
+memory_reaped ticket true s = memory_same s (reaped ticket true s) (good_end ticket s).waiting
 
 -- where a batch is open, its contexts come first
 pub memory_batch : (s : State) (b : Batch) → s.batch ≡ Some b → memory_of s ≡ bytes_in (all_fresh (b.contexts ++ s.pending))

@@ -7,18 +7,7 @@ use Rattle.store_steps.specs.DataGoes as units
 use Rattle.store_steps.specs.HalfGoes as half
 use Rattle.store_steps.specs.BookGoes as book
 
--- how far a context is doesn't change its intent
-pub intents_kept : (place : ℕ) (change : Context → Context) → ((x : Context) → intent_of (change x) ≡ intent_of x) → (front xs : List Context)
-    → intents (front ++ with_context place change xs) ≡ intents (front ++ xs)
-intents_kept place change same [] [] = refl
-intents_kept place change same [] (x ∷ xs) = of_test (x.place == place) ∙ ap (λ (is : List Intent). intent_of x ∷ is) (intents_kept place change same [] xs)
-  where
-    of_test : (b : Bool) → intents (cond b (change x) x ∷ with_context place change xs) ≡ intents (x ∷ with_context place change xs)
-    of_test true = ap (λ (i : Intent). i ∷ intents (with_context place change xs)) (same x)
-    of_test false = refl
-intents_kept place change same (x ∷ front) xs = ap (λ (is : List Intent). intent_of x ∷ is) (intents_kept place change same front xs)
-
--- nor does what has ended change what was given
+-- what has ended of a context doesn't change what was given
 pub given_kept : (place : ℕ) (change : Context → Context) → ((x : Context) → take (change x).given (change x).fresh ≡ take x.given x.fresh)
     → (front xs : List Context) → given_fresh (front ++ with_context place change xs) ≡ given_fresh (front ++ xs)
 given_kept place change same [] [] = refl

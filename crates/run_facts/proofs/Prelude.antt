@@ -1,5 +1,5 @@
 -- The lemmas that other crates cite, passed on from one place, with those of flights that they cite beside them.
-pub use Rattle.flight_facts.proofs.Prelude.{StepOutcome, has_stepped, has_waited, has_gone_down, IsFirst, without_in, all_right, acknowledged_length, ready_by_table, chosen_first, was_up, GoesDown, all_take, all_join, IsIdle, idle_uncommitted, all_left, Ends, IsStill, not_both, some_units, all_then, ready_not_down, some_of, none_ready}
+pub use Rattle.flight_facts.proofs.Prelude.{end_book, does_well, book_step, step_entries, stays_up, goes_down, StepOutcome, has_stepped, has_waited, has_gone_down, IsFirst, without_in, all_right, acknowledged_length, ready_by_table, chosen_first, was_up, GoesDown, all_take, all_join, IsIdle, idle_uncommitted, all_left, Ends, IsStill, not_both, some_units, all_then, ready_not_down, some_of, none_ready}
 pub use Rattle.run_facts.proofs.Conditions.{batch_written, HasRecord, number_low, take_none, IsMade, made_batch, given_flushed, ReadyCommit, finish_ready}
 pub use Rattle.run_facts.proofs.SpaceUnits.{data_within, space_given}
 pub use Rattle.run_facts.proofs.Holds.{nothing_is_held, idle_is_free}

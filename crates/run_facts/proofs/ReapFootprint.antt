@@ -6,9 +6,9 @@ use Rattle.store_steps.specs.Prelude.{Batch, State, done_more, after_done, first
 use Rattle.store_steps.specs.DataGoes as units
 use Rattle.store_steps.specs.HalfGoes as half
 use Rattle.store_steps.specs.BookGoes as book
-use Rattle.flight_facts.proofs.Prelude.{others_of, Landed, landed_flight, reaped_good, IsOf, found_tells, IsLeftOut, left_out}
+use Rattle.flight_facts.proofs.Prelude.{intents_kept, others_of, Landed, landed_flight, reaped_good, IsOf, found_tells, IsLeftOut, left_out}
 use Rattle.run_facts.specs.Prelude.{IsKept}
-use Rattle.run_facts.proofs.PartsKept.{intents_kept, given_kept, book_alone, device_alone}
+use Rattle.run_facts.proofs.PartsKept.{given_kept, book_alone, device_alone}
 
 -- how many pieces have ended doesn't matter to the log
 half_kept : (s : State) (o : Option Begun) → (let t : State = record s { log = record s.log { begun = option_map written_more o } } in

@@ -12,3 +12,4 @@ pub mod BatchLemmas
 pub mod FillLemmas
 pub mod MergeLemmas
 pub mod OpReading
+pub mod SetLemmas

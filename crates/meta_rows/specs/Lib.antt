@@ -5,4 +5,5 @@ pub mod Chunks
 pub mod Filling
 pub mod Merging
 pub mod Reading
+pub mod Sets
 pub mod Prelude

@@ -4,7 +4,8 @@
 //!
 //! Proved: `encode` is the spelling, `encoded_len` its length, `decode` gives operations exactly where bytes are one; `RowTable::apply`
 //! is what the operations make of the rows, by room made beforehand, and `apply_all` the same of any number of operations, with what
-//! memory that takes, or the table stays as it was; `range` lends the rows of a range of keys.
+//! memory that takes, or the table stays as it was; `range` lends the rows of a range of keys. The operations that set each row make the
+//! rows.
 #![tactic(auto)]
 
 mod chunk;
@@ -21,7 +22,7 @@ mod writing;
 
 pub use laws::{
     one_list_for_a_spelling, operations_one_after_another, other_rows_stay,
-    rows_grow_by_their_operations, set_row_is_there,
+    rows_grow_by_their_operations, set_row_is_there, sets_make_the_rows,
 };
 pub use reading::decode;
 pub use row_op::RowOp;

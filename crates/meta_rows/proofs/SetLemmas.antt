@@ -1,0 +1,57 @@
+-- The operations that set each row make the rows, and are as long as these are.
+use Rattle.std.proofs.Common.{◌≡◌, ℕ, ◌+◌, cond, T, List, [], ◌∷◌, length, Option, Some, None, refl, sym, ap, subst, ◌∙◌, arith}
+use Rattle.std.specs.Ordering.{is_eq}
+use Rattle.std.specs.declared.cmp.Ordering.{Ordering}
+use Rattle.std.specs.declared.cmp.Ordering.TheVariants.{Less, Equal, Greater}
+use Rattle.std.specs.FinMap as map
+use Rattle.std.specs.FinMap.{find, is_sorted, entries_sorted, get-empty, get-entries}
+use Rattle.std.specs.FinMap.Entries.{below_all}
+use Rattle.std.proofs.lemmas.List.{length-append}
+use Rattle.std.proofs.lemmas.List.Concat.{flat_map-cons}
+use Rattle.byte_maps.specs.ByteMap.{byte_order}
+use Rattle.byte_maps.proofs.Prelude.{same, after_insert, same_bytes, both_first, both_second, find_below}
+use Rattle.meta_rows.specs.declared.row_op.RowOp.TheVariants.{Set}
+use Rattle.meta_rows.specs.Prelude.{Rows, rows_after, op_bytes, ops_bytes, key_bytes, value_bytes, rows_size, list_size, sets_of, row_sets}
+
+abbrev or_else : {X : Type 0} → Option X → Option X → Option X
+or_else None y = y
+or_else (Some x) y = Some x
+
+or_none : {X : Type 0} → (x : Option X) → or_else x None ≡ x
+or_none None = refl
+or_none (Some x) = refl
+
+first_or : {X : Type 0} → (r : Ordering) (f o : Option X) (v : X) → (r ≡ Equal → f ≡ None)
+    → or_else f (cond (is_eq r) (Some v) o) ≡ or_else (cond (is_eq r) (Some v) f) o
+first_or Less f o v none = refl
+first_or Equal f o v none = ap (λ x. or_else x (Some v)) (none refl)
+first_or Greater f o v none = refl
+
+-- what stands under a key once rows are set over others
+get-sets : (es : List (List ℕ × List ℕ)) (rows : Rows) (q : List ℕ) → T (is_sorted byte_order es)
+    → map.get (rows_after rows (sets_of es)) q ≡ or_else (find byte_order q es) (map.get rows q)
+get-sets [] rows q sorted = refl
+get-sets (e ∷ es) rows q sorted =
+    get-sets es (map.insert rows e.0 e.1) q (both_second _ _ sorted)
+    ∙ ap (or_else (find byte_order q es)) (after_insert rows e.0 e.1 q)
+    ∙ first_or (byte_order q e.0) (find byte_order q es) (map.get rows q) e.1
+    (λ tied. find_below q es (subst (λ k. T (below_all byte_order k es)) (sym (same_bytes q e.0 tied)) (both_first _ _ sorted)))
+
+-- set over none they are the rows
+pub rows_made : (rows : Rows) → rows_after map.empty (row_sets rows) ≡ rows
+rows_made rows = same _ _ (λ q. get-sets (map.entries rows) map.empty q (entries_sorted rows)
+    ∙ ap (or_else (find byte_order q (map.entries rows))) (get-empty byte_order q)
+    ∙ or_none (find byte_order q (map.entries rows))
+    ∙ sym (get-entries rows q))
+
+-- ---- how long they are
+
+pub size-sets : (es : List (List ℕ × List ℕ)) → length (ops_bytes (sets_of es)) ≡ list_size es
+size-sets [] = refl
+size-sets (e ∷ es) =
+    let more = size-sets es in
+    let one : length (op_bytes (Set e.0 e.1)) ≡ 7 + length e.0 + length e.1 = omega (arith, length-append (1 ∷ key_bytes e.0) (value_bytes e.1)) in
+    ap length (flat_map-cons op_bytes (Set e.0 e.1) (sets_of es)) ∙ length-append (op_bytes (Set e.0 e.1)) (ops_bytes (sets_of es)) ∙ omega (arith, one, more)
+
+pub row_sets_size : (rows : Rows) → length (ops_bytes (row_sets rows)) ≡ rows_size rows
+row_sets_size rows = size-sets (map.entries rows)

@@ -13,3 +13,4 @@ pub mod FillLemmas
 pub mod MergeLemmas
 pub mod OpReading
 pub mod SetLemmas
+pub mod CursorLemmas

@@ -1,5 +1,5 @@
 -- The operations that set each row make the rows, and are as long as these are.
-use Rattle.std.proofs.Common.{◌≡◌, ℕ, ◌+◌, cond, T, List, [], ◌∷◌, length, Option, Some, None, refl, sym, ap, subst, ◌∙◌, arith}
+use Rattle.std.proofs.Common.{◌≡◌, ℕ, suc, ◌+◌, ◌≤◌, cond, T, List, [], ◌∷◌, length, Option, Some, None, refl, sym, ap, subst, ◌∙◌, arith}
 use Rattle.std.specs.Ordering.{is_eq}
 use Rattle.std.specs.declared.cmp.Ordering.{Ordering}
 use Rattle.std.specs.declared.cmp.Ordering.TheVariants.{Less, Equal, Greater}
@@ -55,3 +55,12 @@ size-sets (e ∷ es) =
 
 pub row_sets_size : (rows : Rows) → length (ops_bytes (row_sets rows)) ≡ rows_size rows
 row_sets_size rows = size-sets (map.entries rows)
+
+-- how many they are
+pub sets_count : (es : List (List ℕ × List ℕ)) → length (sets_of es) ≡ length es
+sets_count [] = refl
+sets_count (e ∷ es) = ap suc (sets_count es)
+
+pub rows_fewer : (es : List (List ℕ × List ℕ)) → length es ≤ list_size es
+rows_fewer [] = omega arith
+rows_fewer (e ∷ es) = omega (arith, rows_fewer es)

@@ -6,4 +6,5 @@ pub mod Filling
 pub mod Merging
 pub mod Reading
 pub mod Sets
+pub mod Cursors
 pub mod Prelude

@@ -1,9 +1,6 @@
 -- Places in the spelling of rows, and parts of it.
 use Rattle.std.proofs.Common.{◌≡◌, ℕ, zero, suc, ◌+◌, ◌-◌, ◌<◌, ◌≤◌, Bool, true, false, T, List, [], ◌∷◌, ◌++◌, length, get_or, take, drop, min, Option, Some, None, refl, sym, ap, ap₂, subst, ◌∙◌, arith, append_assoc, append-nil}
-use Rattle.std.specs.Ordering.{is_lt, ordering_reverse}
-use Rattle.std.specs.declared.cmp.Ordering.{Ordering}
-use Rattle.std.specs.declared.cmp.Ordering.TheVariants.{Less, Equal, Greater}
-use Rattle.std.specs.Cmp.Lexicographic.{nat_list_cmp_total}
+use Rattle.std.specs.Ordering.{is_lt}
 use Rattle.std.specs.FinMap as map
 use Rattle.std.specs.FinMap.{is_sorted, entries_sorted}
 use Rattle.std.proofs.Math.Seq.{drop-nil, take-nil, drop-append-add}
@@ -16,7 +13,7 @@ use Rattle.meta_rows.specs.declared.part.Part.{Part}
 use Rattle.meta_rows.specs.Prelude.{Rows, op_bytes, ops_bytes, AllFit, rows_size, list_size, rows_from_to, NoneBelow, StartsAt, Entry, joined, sets_of, row_sets, rows_on, IsIn, part_with, Takes}
 use Rattle.meta_rows.proofs.ChunkLemmas.{joined-append}
 use Rattle.meta_rows.proofs.ListSizes.{list_size-append}
-use Rattle.meta_rows.proofs.SetLemmas.{size-sets}
+use Rattle.meta_rows.proofs.SetLemmas.{size-sets, same_key}
 use Rattle.meta_rows.proofs.RangeLemmas.{starts_there, none_behind, range_is}
 
 -- ---- a part of bytes that come
@@ -26,7 +23,7 @@ drop_past n xs ys long =
     let sum : n ≡ length xs + (n - length xs) = omega (arith, long) in ap (λ k. drop k (xs ++ ys)) sum ∙ drop-append-add xs ys (n - length xs)
 
 -- bytes of which as many are taken as are wanted
-take_both : (n : ℕ) (xs ys : List ℕ) → take n (xs ++ ys) ≡ take (min n (length xs)) xs ++ take (n - min n (length xs)) ys
+pub take_both : (n : ℕ) (xs ys : List ℕ) → take n (xs ++ ys) ≡ take (min n (length xs)) xs ++ take (n - min n (length xs)) ys
 take_both zero xs ys =
     let none : min 0 (length xs) ≡ 0 = omega arith in
     let rest : 0 - min 0 (length xs) ≡ 0 = omega arith in
@@ -168,11 +165,6 @@ in_front rows back key passed place i = record {
   place_is = i.place_is;
 }
 
-same_order : (o : Ordering) → o ≡ ordering_reverse o → o ≡ Equal
-same_order Less is = absurd cc
-same_order Equal is = refl
-same_order Greater is = absurd cc
-
 -- how many bytes lie before a place in its bytes
 pub place_before : (rows : Rows) (key : List ℕ) (passed place : ℕ) → IsIn (map.entries rows) key passed place
     → list_size (rows_from_to rows [] (Some key)) + passed ≡ place
@@ -184,8 +176,7 @@ place_before rows key passed place i =
     let none : n ≡ n + 0 = omega arith in
     let there : (d : Entry) → get_or es n d ≡ row =
     λ d. ap₂ (λ (l : List Entry) k. get_or l k d) i.is none ∙ get_or-append-add i.front (row ∷ i.back) 0 d in
-    let equal = same_order (byte_order key key) (nat_list_cmp_total.antisymm key key) in
-    let s = starts_there key es n (entries_sorted rows) within (λ d. ap (λ (e : Entry). byte_order e.0 key) (there d) ∙ equal) in
+    let s = starts_there key es n (entries_sorted rows) within (λ d. ap (λ (e : Entry). byte_order e.0 key) (there d) ∙ same_key key) in
     let front : rows_from_to rows [] (Some key) ≡ i.front = below_is rows key n s ∙ ap (take n) i.is ∙ take_at i.front (row ∷ i.back) n refl in
     ap (λ (l : List Entry). list_size l + passed) front ∙ i.place_is
 

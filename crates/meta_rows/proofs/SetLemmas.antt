@@ -1,6 +1,7 @@
 -- The operations that set each row make the rows, and are as long as these are.
-use Rattle.std.proofs.Common.{◌≡◌, ℕ, suc, ◌+◌, ◌≤◌, cond, T, List, [], ◌∷◌, length, Option, Some, None, refl, sym, ap, subst, ◌∙◌, arith}
-use Rattle.std.specs.Ordering.{is_eq}
+use Rattle.std.proofs.Common.{◌≡◌, ℕ, suc, ◌+◌, ◌<◌, ◌≤◌, ◌^◌, cond, T, List, [], ◌∷◌, length, Option, Some, None, refl, sym, ap, subst, ◌∙◌, arith}
+use Rattle.std.specs.Ordering.{is_eq, ordering_reverse}
+use Rattle.std.specs.Cmp.Lexicographic.{nat_list_cmp_total}
 use Rattle.std.specs.declared.cmp.Ordering.{Ordering}
 use Rattle.std.specs.declared.cmp.Ordering.TheVariants.{Less, Equal, Greater}
 use Rattle.std.specs.FinMap as map
@@ -11,7 +12,7 @@ use Rattle.std.proofs.lemmas.List.Concat.{flat_map-cons}
 use Rattle.byte_maps.specs.ByteMap.{byte_order}
 use Rattle.byte_maps.proofs.Prelude.{same, after_insert, same_bytes, both_first, both_second, find_below}
 use Rattle.meta_rows.specs.declared.row_op.RowOp.TheVariants.{Set}
-use Rattle.meta_rows.specs.Prelude.{Rows, rows_after, op_bytes, ops_bytes, key_bytes, value_bytes, rows_size, list_size, sets_of, row_sets}
+use Rattle.meta_rows.specs.Prelude.{Rows, rows_after, op_bytes, ops_bytes, key_bytes, value_bytes, rows_size, list_size, IsKey, AllFit, sets_of, row_sets, RowsFit}
 
 abbrev or_else : {X : Type 0} → Option X → Option X → Option X
 or_else None y = y
@@ -64,3 +65,36 @@ sets_count (e ∷ es) = ap suc (sets_count es)
 pub rows_fewer : (es : List (List ℕ × List ℕ)) → length es ≤ list_size es
 rows_fewer [] = omega arith
 rows_fewer (e ∷ es) = omega (arith, rows_fewer es)
+
+-- ---- that they have a spelling
+
+same_order : (o : Ordering) → o ≡ ordering_reverse o → o ≡ Equal
+same_order Less is = absurd cc
+same_order Equal is = refl
+same_order Greater is = absurd cc
+
+pub same_key : (key : List ℕ) → byte_order key key ≡ Equal
+same_key key = same_order (byte_order key key) (nat_list_cmp_total.antisymm key key)
+
+-- what stands under a key behind a row stands there with that row before it
+behind_row : (e : List ℕ × List ℕ) (es : List (List ℕ × List ℕ)) (key value : List ℕ) → T (is_sorted byte_order (e ∷ es)) → find byte_order key es ≡ Some value
+    → (o : Ordering) → byte_order key e.0 ≡ o → find byte_order key (e ∷ es) ≡ Some value
+behind_row e es key value sorted is Less order = ap (λ o. cond (is_eq o) (Some e.1) (find byte_order key es)) order ∙ is
+behind_row e es key value sorted is Greater order = ap (λ o. cond (is_eq o) (Some e.1) (find byte_order key es)) order ∙ is
+behind_row e es key value sorted is Equal order =
+    let none = find_below key es (subst (λ k. T (below_all byte_order k es)) (sym (same_bytes key e.0 order)) (both_first _ _ sorted)) in
+    absurd (no_value (sym none ∙ is))
+  where
+    no_value : None ≡ Some value → ⊥
+    no_value h = cc
+
+each_fits : (es : List (List ℕ × List ℕ)) → T (is_sorted byte_order es)
+    → ((key value : List ℕ) → find byte_order key es ≡ Some value → IsKey key × (length value < 2 ^ 32)) → AllFit (sets_of es)
+each_fits [] sorted fit = tt
+each_fits (e ∷ es) sorted fit = (
+  fit e.0 e.1 (ap (λ o. cond (is_eq o) (Some e.1) (find byte_order e.0 es)) (same_key e.0)),
+  each_fits es (both_second _ _ sorted) (λ key value is. fit key value (behind_row e es key value sorted is (byte_order key e.0) refl)),
+)
+
+pub rows_fit : (rows : Rows) → RowsFit rows → AllFit (row_sets rows)
+rows_fit rows fit = each_fits (map.entries rows) (entries_sorted rows) (λ key value is. fit key value (get-entries rows key ∙ is))

@@ -13,4 +13,5 @@ pub mod FillLemmas
 pub mod MergeLemmas
 pub mod OpReading
 pub mod SetLemmas
+pub mod FitLemmas
 pub mod CursorLemmas

@@ -40,3 +40,9 @@ pub fn sets_make_the_rows()
     ensures fit { (rows : Rows) → RowsFit rows → AllFit (row_sets rows) }
     ensures size { (rows : Rows) → length (ops_bytes (row_sets rows)) ≡ rows_size rows }
 {}
+
+/// Rows fit where operations that do make them: no rows do, and each operation leaves them so.
+pub fn rows_stay_fit()
+    ensures none { RowsFit map.empty }
+    ensures after { (rows : Rows) (ops : List RowOp) → RowsFit rows → AllFit ops → RowsFit (rows_after rows ops) }
+{}

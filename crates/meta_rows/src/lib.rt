@@ -24,7 +24,7 @@ mod writing;
 
 pub use laws::{
     one_list_for_a_spelling, operations_one_after_another, other_rows_stay,
-    rows_grow_by_their_operations, set_row_is_there, sets_make_the_rows,
+    rows_grow_by_their_operations, rows_stay_fit, set_row_is_there, sets_make_the_rows,
 };
 pub use reading::decode;
 pub use row_cursor::RowCursor;

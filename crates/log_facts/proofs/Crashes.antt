@@ -66,6 +66,13 @@ module _ (h : History) (s : Super) (rows : Rows) (tail number : ℕ) (begun : Op
   kept_by_zero zeroed = kept (no_record_behind image s tail (omega (arith, half.room)) inside
       (λ some. surely_image h (active_unit s + tail) (λ unit. unit ≡ zeros 4096) image (zeroed some) is) number)
 
+-- where no record is begun the rows are as they were
+pub half_left : (h : History) (s : Super) (rows : Rows) (tail number given_from : ℕ) (second : FlushState) (recs : List (List RowOp)) (image : List ℕ)
+    → IsSuper s → IsUnits s.units h.start → IsCrashImage h.start h.log image
+    → ActiveHalfStands h s rows tail number None given_from second recs → AreRowsOf image s rows
+half_left h s rows tail number given_from second recs image limits whole is half =
+    kept_by_zero h s rows tail number None given_from second recs image half limits whole is (λ some. half.zero_behind tail (omega arith) some)
+
 -- a record that was wholly given is there, or none is
 module _ (h : History) (s : Super) (rows : Rows) (tail number : ℕ) (ops : List RowOp) (second : FlushState) (recs : List (List RowOp)) (image : List ℕ)
     (half : ActiveHalfStands h s rows tail number (Some ops) 0 second recs)

@@ -6,3 +6,7 @@ pub mod Crashes
 pub mod Mounting
 pub mod Cuts
 pub mod Found
+pub mod OneRecord
+pub mod Switching
+pub mod SwitchCuts
+pub mod RowsBegin

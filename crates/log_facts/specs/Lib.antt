@@ -4,4 +4,6 @@ pub mod HalfFacts
 pub mod CrashRows
 pub mod Soundness
 pub mod FoundHalf
+pub mod Checkpoints
+pub mod RowRecords
 pub mod Prelude

@@ -1,24 +1,26 @@
 //! How the facts of slots and log go on from one event to the next, and what they come to.
 
-ghost use Rattle.std.specs.Prelude.{◌≡◌, ℕ, ◌+◌, ◌-◌, ◌*◌, ◌<◌, ◌≤◌, true, List, [], ◌∷◌, ◌++◌, length, take, Option, Some, None};
+ghost use Rattle.std.specs.Prelude.{◌≡◌, ◌⊎◌, Bool, nat_lt, false, ℕ, ◌+◌, ◌-◌, ◌*◌, ◌<◌, ◌≤◌, true, List, [], ◌∷◌, ◌++◌, length, take, Option, Some, None};
 ghost use Rattle.std.specs.FinMap as map;
-ghost use Rattle.byte_maps.specs.Units.{units_from, zeros, IsUnits};
+ghost use Rattle.byte_maps.specs.Units.{unit_at, units_from, zeros, IsUnits};
 ghost use Rattle.block_device.specs.Prelude.{last, WritesUnit, IsClean, IsCrashImage, History, Flight, with_event, last_at, EventFits, EachWriteIsAnswered, QuietAt, IsUntouched};
 ghost use Rattle.block_device.specs.declared.event.Event.{Event};
 ghost use Rattle.block_device.specs.declared.event.Event.TheVariants.{Write, Flush, Done};
 ghost use Rattle.object_model.specs.Prelude.{Objects, replay, committed, HasAcked};
 ghost use Rattle.object_model.specs.declared.book.Book.{Book};
 ghost use Rattle.meta_rows.specs.declared.row_op.RowOp.{RowOp};
-ghost use Rattle.meta_rows.specs.Prelude.{Rows, rows_after, rows_of_records};
+ghost use Rattle.meta_rows.specs.Prelude.{Rows, rows_after, rows_of_records, row_sets};
 ghost use Rattle.meta_log.specs.declared.slot.Super.{Super};
-ghost use Rattle.meta_log.specs.Prelude.{active_unit, IsSuper, IsActiveSlot, record_units, unit_count, AreRecords, active_half, AreRowsOf, units_of_records, width_of};
+ghost use Rattle.meta_log.specs.Prelude.{active_unit, IsSuper, IsActiveSlot, record_units, unit_count, AreRecords, active_half, AreRowsOf, units_of_records, width_of, super_bytes};
 ghost use Rattle.store_image.specs.Prelude.{NoBadRow, IsExactBut, IsLeakedIn, ObjectsStand, StandsFor, NoChanceMatch, LeavesPrefix};
 ghost use Rattle.log_facts.specs.Flushing.{FlushState, not_sent, sent, flushed, IsFlushed, WritesNoneOf};
-ghost use Rattle.log_facts.specs.SlotFacts.{SlotsStand};
-ghost use Rattle.log_facts.specs.HalfFacts.{IsSpellable, IsSurelyZero, ActiveHalfStands};
+ghost use Rattle.log_facts.specs.SlotFacts.{SlotsStand, other_slot};
+ghost use Rattle.log_facts.specs.HalfFacts.{records_units, AreSpellable, IsSpellable, IsSurelyZero, ActiveHalfStands};
 ghost use Rattle.log_facts.specs.FoundHalf.{RecordsStand, EndsInZeros};
 ghost use Rattle.log_facts.specs.CrashRows.{LeavesRows};
 ghost use Rattle.log_facts.specs.Soundness.{SoundFor};
+ghost use Rattle.log_facts.specs.RowRecords.{check_records, check_units};
+ghost use Rattle.log_facts.specs.Checkpoints.{other_unit, next_super, target_unit, OtherHalfRests, CheckpointStands, NextSlotStands, LeavesEither};
 
 /// What is known of the slots stays known over an event that writes neither.
 pub fn an_event_elsewhere_keeps_the_slots()
@@ -180,4 +182,119 @@ pub fn a_crash_now_leaves_a_prefix()
         IsExactBut (width_of s) (IsLeakedIn (last h.start (take base h.log))) rows →
         ((ops : List RowOp) → begun ≡ Some ops → IsExactBut (width_of s) (IsLeakedIn (last h.start (take base h.log))) (rows_after rows ops)) →
         LeavesPrefix base h.start objects book h.log }
+{}
+
+/// What is known of the other half, at rest or while a checkpoint is written there, and of the slots while its superblock is, stays
+/// known over an event that writes none of their units.
+pub fn an_event_elsewhere_keeps_a_checkpoint()
+    ensures rests { (h : History) (s : Super) (is_stale : ℕ → Bool) (event : Event) → EventFits (length (last h.start h.log)) event →
+        WritesNoneOf (other_unit s) s.half event → OtherHalfRests h s is_stale → OtherHalfRests (with_event h event) s is_stale }
+    ensures stands { (h : History) (t : Super) (rows : Rows) (tail : ℕ) (recs : List (List RowOp)) (is_left : ℕ → Bool) (flush : FlushState)
+        (event : Event) → EventFits (length (last h.start h.log)) event → WritesNoneOf (active_unit t) t.half event →
+        CheckpointStands h t rows tail recs is_left flush → CheckpointStands (with_event h event) t rows tail recs is_left flush }
+    ensures next_slot { (h : History) (s : Super) (number : ℕ) (flush : FlushState) (event : Event) →
+        EventFits (length (last h.start h.log)) event → WritesNoneOf 0 2 event → NextSlotStands h s number flush →
+        NextSlotStands (with_event h event) s number flush }
+{}
+
+/// A checkpoint begins in a half at rest: its records are left to be written, and zeros over what is stale behind them.
+pub fn a_checkpoint_begins()
+    ensures { (h : History) (s : Super) (number : ℕ) (rows : Rows) (tail : ℕ) (recs : List (List RowOp)) (is_stale is_left : ℕ → Bool) →
+        rows ≡ rows_of_records map.empty recs → AreSpellable number recs → IsUnits tail (records_units number recs) → tail ≤ s.half →
+        ((k : ℕ) → k < s.half → is_left k ≡ false → (tail ≤ k) × (is_stale k ≡ false)) → OtherHalfRests h s is_stale →
+        CheckpointStands h (next_super s number) rows tail recs is_left not_sent }
+{}
+
+/// A run of its units is given to the device, each as it is to be.
+pub fn a_checkpoint_gives_a_run()
+    ensures { (h : History) (t : Super) (rows : Rows) (tail : ℕ) (recs : List (List RowOp)) (is_left is_left_after : ℕ → Bool)
+        (from count : ℕ) (piece : List ℕ) → length piece ≡ 4096 * count →
+        ((j : ℕ) → j < count → unit_at j piece ≡ target_unit tail t.first recs (from + j)) →
+        ((k : ℕ) → k < t.half → is_left_after k ≡ false → (is_left k ≡ false) ⊎ ((from ≤ k) × (k < from + count))) →
+        4096 * (active_unit t + from) + length piece ≤ length (last h.start h.log) →
+        CheckpointStands h t rows tail recs is_left not_sent →
+        CheckpointStands (with_event h (Write (active_unit t + from) piece)) t rows tail recs is_left_after not_sent }
+{}
+
+/// Its flush is submitted while no write of the half is in flight, and ends; then the half stands as a log of the superblock that is to come.
+pub fn a_checkpoint_is_flushed()
+    ensures submitted { (h : History) (t : Super) (rows : Rows) (tail : ℕ) (recs : List (List RowOp)) (is_left : ℕ → Bool) (base : ℕ)
+        (flights : List Flight) → QuietAt base h → EachWriteIsAnswered base h flights →
+        ((k : ℕ) → k < t.half → IsUntouched flights (active_unit t + k)) → CheckpointStands h t rows tail recs is_left not_sent →
+        CheckpointStands (with_event h Flush) t rows tail recs is_left (sent (length h.log)) }
+    ensures ended { (h : History) (t : Super) (rows : Rows) (tail : ℕ) (recs : List (List RowOp)) (is_left : ℕ → Bool) (flush : ℕ) →
+        CheckpointStands h t rows tail recs is_left (sent flush) →
+        CheckpointStands (with_event h (Done flush true)) t rows tail recs is_left flushed }
+    ensures half { (h : History) (t : Super) (rows : Rows) (tail : ℕ) (recs : List (List RowOp)) (is_left : ℕ → Bool) →
+        ((k : ℕ) → k < t.half → is_left k ≡ false) → CheckpointStands h t rows tail recs is_left flushed →
+        ActiveHalfStands h t rows tail (t.first + length recs) None 0 not_sent recs }
+{}
+
+/// The superblock that follows is written to the other slot, and flushed.
+pub fn the_next_slot_is_written()
+    ensures written { (h : History) (s : Super) (number : ℕ) → IsSuper (next_super s number) → 4096 * 2 ≤ length (last h.start h.log) →
+        SlotsStand h s → NextSlotStands (with_event h (Write (other_slot s) (super_bytes (next_super s number)))) s number not_sent }
+    ensures submitted { (h : History) (s : Super) (number base : ℕ) (flights : List Flight) → QuietAt base h →
+        EachWriteIsAnswered base h flights → IsUntouched flights (other_slot s) → NextSlotStands h s number not_sent →
+        NextSlotStands (with_event h Flush) s number (sent (length h.log)) }
+    ensures ended { (h : History) (s : Super) (number flush : ℕ) → NextSlotStands h s number (sent flush) →
+        NextSlotStands (with_event h (Done flush true)) s number flushed }
+{}
+
+/// The halves change places: the slots stand for the superblock that follows, and what was the half in use is at rest, its records stale.
+pub fn the_halves_change_places()
+    ensures slots { (h : History) (s : Super) (number : ℕ) → NextSlotStands h s number flushed → SlotsStand h (next_super s number) }
+    ensures rests { (h : History) (s : Super) (number : ℕ) (rows : Rows) (tail next given_from : ℕ) (second : FlushState)
+        (recs : List (List RowOp)) → ActiveHalfStands h s rows tail next None given_from second recs →
+        OtherHalfRests h (next_super s number) (λ k. nat_lt k tail) }
+{}
+
+/// While the next slot is written, both halves have the rows: what a crash leaves has one of the two superblocks, and the rows by either.
+pub fn a_crash_leaves_either_half()
+    ensures { (h : History) (s : Super) (number : ℕ) (flush : FlushState) (rows : Rows) (tail next tail_after next_after : ℕ)
+        (recs recs_after : List (List RowOp)) (from from_after : ℕ) (second second_after : FlushState) →
+        IsUnits s.units h.start → NextSlotStands h s number flush → ActiveHalfStands h s rows tail next None from second recs →
+        ActiveHalfStands h (next_super s number) rows tail_after next_after None from_after second_after recs_after →
+        (image : List ℕ) → IsCrashImage h.start h.log image → NoChanceMatch h.start h.log image → LeavesEither image s number rows }
+{}
+
+/// So a crash then leaves a front of the commits, as it does at other times.
+pub fn a_crash_at_a_switch_leaves_a_prefix()
+    ensures { (h : History) (s : Super) (number : ℕ) (flush : FlushState) (rows : Rows) (tail next tail_after next_after : ℕ)
+        (recs recs_after : List (List RowOp)) (from from_after : ℕ) (second second_after : FlushState)
+        (base : ℕ) (objects : Objects) (book : Book) (count : ℕ) →
+        IsUnits s.units h.start → NextSlotStands h s number flush → ActiveHalfStands h s rows tail next None from second recs →
+        ActiveHalfStands h (next_super s number) rows tail_after next_after None from_after second_after recs_after →
+        count ≤ length book.commits → HasAcked base (length h.log) book.commits count →
+        SoundFor h s rows (replay objects (committed book.entries (take count book.commits))) →
+        IsExactBut (width_of s) (IsLeakedIn (last h.start (take base h.log))) rows →
+        LeavesPrefix base h.start objects book h.log }
+{}
+
+/// Rows that are sound by a superblock are so by the one that follows.
+pub fn sound_rows_stay_sound()
+    ensures { (h : History) (s : Super) (number : ℕ) (rows : Rows) (objects : Objects) → SoundFor h s rows objects →
+        SoundFor h (next_super s number) rows objects }
+{}
+
+/// The record that sets each row makes the rows; where there are none no record does.
+pub fn a_record_of_the_rows()
+    ensures { (rows : Rows) → rows ≡ rows_of_records map.empty (check_records rows) }
+{}
+
+/// So a checkpoint of the rows begins wherever that record has a spelling and fits the half.
+pub fn a_checkpoint_of_the_rows_begins()
+    ensures { (h : History) (s : Super) (number : ℕ) (rows : Rows) (is_stale is_left : ℕ → Bool) → IsSpellable number (row_sets rows) →
+        check_units number rows ≤ s.half →
+        ((k : ℕ) → k < s.half → is_left k ≡ false → (check_units number rows ≤ k) × (is_stale k ≡ false)) → OtherHalfRests h s is_stale →
+        CheckpointStands h (next_super s number) rows (check_units number rows) (check_records rows) is_left not_sent }
+{}
+
+/// Any units in a row of that record, and zeros behind it, are as the half is to be.
+pub fn the_pieces_of_a_checkpoint()
+    ensures pieces { (number : ℕ) (rows : Rows) (from count j : ℕ) → from + count ≤ check_units number rows → j < count →
+        unit_at j (units_from from count (record_units number (row_sets rows)))
+        ≡ target_unit (check_units number rows) number (check_records rows) (from + j) }
+    ensures behind { (number : ℕ) (rows : Rows) (from count j : ℕ) → check_units number rows ≤ from → j < count →
+        unit_at j (zeros (4096 * count)) ≡ target_unit (check_units number rows) number (check_records rows) (from + j) }
 {}

@@ -5,3 +5,4 @@ pub mod PieceLemmas
 pub mod SealLemmas
 pub mod PartLemmas
 pub mod ScanLemmas
+pub mod RowsLemmas

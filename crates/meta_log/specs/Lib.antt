@@ -3,4 +3,5 @@ pub mod Records
 pub mod Pieces
 pub mod Sealed
 pub mod Scanning
+pub mod RowsRecords
 pub mod Prelude

@@ -56,6 +56,21 @@ pub(crate) fn units_of(bytes: usize) -> usize
     (bytes + (UNIT_BYTES - 1)) / UNIT_BYTES
 }
 
+// Writes a head but for its checksum: of a body of so many bytes, of so many operations.
+pub(crate) fn push_head(
+    out: &mut Vec<u8>,
+    number: u64,
+    count: u32,
+    size: u32,
+) -> Result<(), AllocError>
+    ensures { OnOk result (out.new.items ≡ out.old.items ++ head_of number count size) }
+{
+    out.extend_from_slice(&MAGIC)?;
+    push_u32_le(out, size)?;
+    push_u64_le(out, number)?;
+    push_u32_le(out, count)
+}
+
 // The head but for its checksum, in a buffer with room for the whole record.
 fn head(alloc: Global, number: u64, ops: &[RowOp], body: &[u8]) -> Result<Vec<u8>, AllocError>
     requires ops { length ops.now < 2 ^ 32 }
@@ -63,10 +78,7 @@ fn head(alloc: Global, number: u64, ops: &[RowOp], body: &[u8]) -> Result<Vec<u8
     ensures { IfOk result (λ head. head.items ≡ head_of number (length ops.now) (length body.now)) }
 {
     let mut head = Vec::with_capacity(alloc, units_of(HEAD_BYTES + body.len()) * UNIT_BYTES)?;
-    head.extend_from_slice(&MAGIC)?;
-    push_u32_le(&mut head, body.len() as u32)?;
-    push_u64_le(&mut head, number)?;
-    push_u32_le(&mut head, ops.len() as u32)?;
+    push_head(&mut head, number, ops.len() as u32, body.len() as u32)?;
     Ok(head)
 }
 

@@ -12,3 +12,6 @@ pub mod BatchLemmas
 pub mod FillLemmas
 pub mod MergeLemmas
 pub mod OpReading
+pub mod SetLemmas
+pub mod FitLemmas
+pub mod CursorLemmas

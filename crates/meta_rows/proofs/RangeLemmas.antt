@@ -61,7 +61,7 @@ module _ (key : List ℕ) where
       (omega (arith, later.0), (so _ less, later.1), later.2)
 
   -- rows behind one that isn't below the key
-  none_behind : (o : Ordering) (f : List ℕ × List ℕ) (es : List (List ℕ × List ℕ)) → byte_order f.0 key ≡ o → is_lt o ≡ false → T (below_all byte_order f.0 es)
+  pub none_behind : (o : Ordering) (f : List ℕ × List ℕ) (es : List (List ℕ × List ℕ)) → byte_order f.0 key ≡ o → is_lt o ≡ false → T (below_all byte_order f.0 es)
       → NoneBelow key es
   none_behind Less f es is high h = absurd cc
   none_behind Equal f es is high h = all_from es (subst (λ (k : List ℕ). T (below_all byte_order k es)) (same_bytes f.0 key is) h)

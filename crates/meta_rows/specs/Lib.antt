@@ -5,4 +5,6 @@ pub mod Chunks
 pub mod Filling
 pub mod Merging
 pub mod Reading
+pub mod Sets
+pub mod Cursors
 pub mod Prelude

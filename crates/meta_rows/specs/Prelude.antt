@@ -6,3 +6,5 @@ pub use Rattle.meta_rows.specs.Chunks.{Entry, joined, first_order, IsPastLast, b
 pub use Rattle.meta_rows.specs.Filling.{Rises, held_rows, held_value, row_left, rows_of, gap, HasSpace, IsShaped, IsAppended, IsFilling, Holds, NotBelow, Awaits}
 pub use Rattle.meta_rows.specs.Merging.{FirstNotBelow, TakesBelow, ops_left, IsMerging, Goes}
 pub use Rattle.meta_rows.specs.Reading.{IsValue, BeginsWithNo, Reads, SpellOps}
+pub use Rattle.meta_rows.specs.Sets.{sets_of, row_sets, RowsFit}
+pub use Rattle.meta_rows.specs.Cursors.{bytes_before, rows_on, IsIn, TakesLast, part_with, Takes}

@@ -4,6 +4,7 @@ ghost use Rattle.std.specs.Prelude.{◌≡◌, ◌≤◌, ◌+◌, ℕ, List, �
 ghost use Rattle.std.specs.FinMap as map;
 ghost use Rattle.meta_rows.specs.Rows.{Rows, row_after, rows_after, LeaveAlone};
 ghost use Rattle.meta_rows.specs.Spelling.{ops_bytes, AllFit};
+ghost use Rattle.meta_rows.specs.Sets.{row_sets, RowsFit};
 ghost use Rattle.meta_rows.specs.Table.{rows_size};
 ghost use Rattle.meta_rows.specs.declared.row_op.RowOp.{RowOp};
 ghost use Rattle.meta_rows.specs.declared.row_op.RowOp.TheVariants.{Set};
@@ -31,4 +32,17 @@ pub fn other_rows_stay()
 /// The rows grow by the bytes of the operations at most: all of them fit one record no longer than the records that made them.
 pub fn rows_grow_by_their_operations()
     ensures { (rows : Rows) (ops : List RowOp) → rows_size (rows_after rows ops) ≤ rows_size rows + length (ops_bytes ops) }
+{}
+
+/// The operations that set each row make the rows, over none. Their spelling, which they have where each row fits, is as long as the rows are.
+pub fn sets_make_the_rows()
+    ensures made { (rows : Rows) → rows_after map.empty (row_sets rows) ≡ rows }
+    ensures fit { (rows : Rows) → RowsFit rows → AllFit (row_sets rows) }
+    ensures size { (rows : Rows) → length (ops_bytes (row_sets rows)) ≡ rows_size rows }
+{}
+
+/// Rows fit where operations that do make them: no rows do, and each operation leaves them so.
+pub fn rows_stay_fit()
+    ensures none { RowsFit map.empty }
+    ensures after { (rows : Rows) (ops : List RowOp) → RowsFit rows → AllFit ops → RowsFit (rows_after rows ops) }
 {}

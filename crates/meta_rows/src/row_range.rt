@@ -2,8 +2,9 @@
 //!
 //! `RowTable::range` gives an iterator that is seen as the list of the range. A loop over it says that what is left are the rows of the
 //! range from a place on (`left_more`, `left_none` of `RangeLemmas`).
-ghost use Rattle.std.specs.Prelude.{◌≡◌, [], ◌++◌};
+ghost use Rattle.std.specs.Prelude.{◌≡◌, [], ◌++◌, option_copied};
 ghost use Rattle.meta_rows.specs.Chunks.{joined, NoneEmpty};
+ghost use Rattle.meta_rows.specs.Cursors.{TakesLast};
 
 use crate::chunk::Chunk;
 use byte_maps::Bytes;
@@ -54,6 +55,25 @@ impl<'a> RowRange<'a> {
             more: self.more,
             last: self.last,
         }
+    }
+
+    /// The last of the rows that are still to come, which doesn't come any more.
+    pub fn next_back(&mut self) -> Option<&'a (Bytes, Bytes)>
+        ensures { TakesLast self.old self.new (option_copied result) }
+    {
+        if let Some((row, last)) = self.last.split_last() {
+            self.last = last;
+            return Some(row);
+        }
+        if let Some((chunk, more)) = self.more.split_last() {
+            let (row, last) = chunk.rows().split_last()?;
+            self.more = more;
+            self.last = last;
+            return Some(row);
+        }
+        let (row, here) = self.here.split_last()?;
+        self.here = here;
+        Some(row)
     }
 }
 

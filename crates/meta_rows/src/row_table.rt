@@ -17,6 +17,7 @@ ghost use Rattle.byte_maps.specs.ByteMap.{byte_order};
 ghost use Rattle.meta_rows.specs.Rows.{Rows, row_after, rows_after};
 ghost use Rattle.meta_rows.specs.Table.{rows_size, rows_from_to, StartsAt, IsLastBelow, EndsAt};
 ghost use Rattle.meta_rows.specs.Filling.{Rises};
+ghost use Rattle.meta_rows.specs.Sets.{row_sets};
 ghost use Rattle.meta_rows.specs.Chunks.{joined, NoneEmpty, IsPlace, rows_before};
 
 use crate::chunk::{Chunk, start_of};
@@ -181,6 +182,17 @@ fn merged_at_most(chunks: &[Chunk], ops: usize) -> Option<usize>
     Some(sum)
 }
 
+// How many rows the chunks have, if 64 bits hold the number.
+fn rows_in(chunks: &[Chunk]) -> usize
+    ensures { length (joined chunks.now) < 2 ^ 64 → result ≡ length (joined chunks.now) }
+{
+    let mut sum = 0usize;
+    for chunk in chunks {
+        sum = sum.saturating_add(chunk.len());
+    }
+    sum
+}
+
 // The chunks once more.
 fn copied(chunks: &[Chunk], alloc: Global) -> Result<Vec<Chunk>, AllocError>
     ensures { IfOk result (λ v. v.items ≡ chunks.now) }
@@ -261,6 +273,14 @@ impl RowTable {
         ensures { result ≡ rows_size self.now.rows }
     {
         self.size
+    }
+
+    /// How many rows there are. It looks at each chunk once.
+    pub fn len(&self) -> usize
+        requires { rows_size self.now.rows < 2 ^ 64 }
+        ensures { result ≡ length (row_sets self.now.rows) }
+    {
+        rows_in(self.all.list.as_slice())
     }
 
     /// Makes room for so many operations, so that `apply` takes no memory, and for no more than these. Each may have to split a chunk,

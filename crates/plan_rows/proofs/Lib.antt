@@ -2,3 +2,4 @@ pub mod Alike
 pub mod Apart
 pub mod Agreeing
 pub mod OnData
+pub mod Carried

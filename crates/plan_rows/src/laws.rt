@@ -9,7 +9,7 @@ ghost use Rattle.store_image.specs.Prelude.{IsMarked};
 ghost use Rattle.bitmap_freelist.specs.Bitmap.{AreBitmapRows, ExactlyOne};
 ghost use Rattle.plan_rows.specs.declared.plan.Plan.{Plan};
 ghost use Rattle.plan_rows.specs.Names.{AgreeOn, AreOf, HaveNoneInCommon};
-ghost use Rattle.plan_rows.specs.Keeps.{PlanKeeps};
+ghost use Rattle.plan_rows.specs.Keeps.{IsGood, PlanKeeps};
 
 /// Operations on rows of some collections leave the rows of others, and change places with operations on those. The rows of the bitmap stay rows
 /// of it, and exactly the bits of the units that are taken and of those that are released are turned.
@@ -34,4 +34,11 @@ pub fn agreement()
         → AgreeOn names rows later }
     ensures plans { (s : Super) (names : List (List ℕ)) (view other : Rows) (plan : Plan) → AgreeOn names view other
         → PlanKeeps s names view plan → PlanKeeps s names other plan }
+{}
+
+/// Of a superblock rows and plans ask for the device's units and the half's alone: what holds by one holds by each of the same.
+pub fn the_epoch_is_nothing_to_plans()
+    ensures good { (s t : Super) → s.units ≡ t.units → s.half ≡ t.half → (rows : Rows) → IsGood s rows → IsGood t rows }
+    ensures plans { (s t : Super) → s.units ≡ t.units → s.half ≡ t.half → (names : List (List ℕ)) (view : Rows) (plan : Plan)
+        → PlanKeeps s names view plan → PlanKeeps t names view plan }
 {}

@@ -1,0 +1,261 @@
+//! The record that sets each row of a table, whose pieces are spelled from the table one by one.
+//!
+//! Neither the record nor its body is ever kept. The pieces are cut as those of a sealed record, and come last first: a piece begins as many
+//! bytes before the one that was given last as it has. The head, which is in the last piece, has the checksum of head and body: it goes
+//! forward, over as many bytes of the body with each piece as a piece has at most, and so is whole when the head comes. So each byte of
+//! the body is spelled twice, and a piece costs what it is long, however many rows there are.
+//!
+//! The table is given again with each call, and must have the same rows.
+ghost use Rattle.std.specs.Prelude.{◌≡◌, ℕ, ◌+◌, ◌*◌, ◌^◌, ◌<◌, ◌≤◌, ◌++◌, take, drop, bit_xor, IfOk};
+ghost use Rattle.std.specs.Int.{w32, to_le_bytes};
+ghost use Rattle.byte_maps.specs.Units.{units_from};
+ghost use Rattle.crc32c_csum.specs.Prelude.{all_ones, remainder};
+ghost use Rattle.meta_rows.specs.Prelude.{ops_bytes, row_sets, bytes_before};
+ghost use Rattle.meta_log.specs.Records.{head_of, record_head, record_bytes, record_units};
+ghost use Rattle.meta_log.specs.Pieces.{piece_count, given_from, piece_first, piece_units};
+ghost use Rattle.meta_log.specs.Sealed.{IsSealable, piece_bytes};
+ghost use Rattle.meta_log.specs.RowsRecords.{body_before, body_summed, IsRecordOf, IsOneOn};
+
+use crate::sealed::{HEAD_BYTES, push_head, units_of};
+use crc32c_csum::Digest;
+use meta_rows::{RowCursor, RowTable};
+use std::alloc::{AllocError, Global};
+use unit_fields::limits::{PIECE_UNITS, UNIT_BYTES};
+use unit_fields::push_u32_le;
+
+// The most bytes of a piece.
+const PIECE_BYTES: usize = PIECE_UNITS as usize * UNIT_BYTES;
+
+/// The record that sets each row of a table, and how far its pieces were given. (Ceph: RocksDB's flush of a memtable, after which it needs
+/// the older log no more.)
+#[derive(Drop)]
+pub struct RowsRecord {
+    number: u64,
+    // The operations, one for each row.
+    count: u32,
+    // The bytes of the body.
+    size: usize,
+    units: u32,
+    given: u32,
+    // Where those of the body's bytes begin that were given.
+    front: RowCursor,
+    // How far the checksum goes.
+    summed: RowCursor,
+    digest: Digest,
+}
+
+/// A piece of such a record: its first unit within the record, its bytes, and the record once the piece is given.
+#[derive(Drop)]
+pub struct RowsPiece {
+    pub first: u32,
+    pub bytes: Vec<u8>,
+    pub then: RowsRecord,
+}
+
+// The checksum in the making, over a head.
+fn head_digest(alloc: Global, number: u64, count: u32, size: u32) -> Result<Digest, AllocError>
+    ensures { IfOk result (λ digest. digest ≡ remainder all_ones (head_of number count size)) }
+{
+    let mut head = Vec::with_capacity(alloc, HEAD_BYTES)?;
+    push_head(&mut head, number, count, size)?;
+    let mut digest = Digest::new();
+    digest.update(&head);
+    Ok(digest)
+}
+
+impl RowsRecord {
+    /// The record of a table's rows under this number, before its first piece.
+    pub fn begin(alloc: Global, number: u64, rows: &RowTable) -> Result<RowsRecord, AllocError>
+        requires { IsSealable number (row_sets rows.now.rows) }
+        ensures record { IfOk result (IsRecordOf rows.now.rows) }
+        ensures begins { IfOk result (λ r. (r.number ≡ number) × (r.given ≡ 0)) }
+    {
+        let count = rows.len() as u32;
+        let size = rows.size() as usize;
+        let digest = head_digest(alloc, number, count, size as u32)?;
+        Ok(RowsRecord {
+            number,
+            count,
+            size,
+            units: units_of(HEAD_BYTES + size) as u32,
+            given: 0,
+            front: RowCursor::end(),
+            summed: RowCursor::start(alloc),
+            digest,
+        })
+    }
+
+    /// Its number.
+    pub fn number(&self) -> u64
+        ensures { result ≡ self.now.number }
+    {
+        self.number
+    }
+
+    /// The units that it takes in the log, at least one.
+    pub fn units(&self) -> u32
+        ensures { result ≡ self.now.units }
+    {
+        self.units
+    }
+
+    /// How many pieces were given.
+    pub fn given(&self) -> u32
+        ensures { result ≡ self.now.given }
+    {
+        self.given
+    }
+
+    /// How many pieces it is written in, at least one.
+    pub fn pieces(&self) -> u32
+        ensures { result ≡ piece_count self.now.units }
+    {
+        (self.units / PIECE_UNITS) + u32::from(self.units % PIECE_UNITS != 0)
+    }
+
+    // The first unit of the next piece.
+    fn first(&self) -> u32
+        requires { self.now.given < piece_count self.now.units }
+        ensures { result ≡ piece_first self.now.units self.now.given }
+    {
+        (self.pieces() - 1 - self.given) * PIECE_UNITS
+    }
+
+    // How many bytes of the body lie before a unit.
+    fn body_before(&self, unit: u32) -> usize
+        ensures { result ≡ body_before self.now.size unit }
+    {
+        let bytes = unit as usize * UNIT_BYTES;
+        self.size.min(bytes.saturating_sub(HEAD_BYTES))
+    }
+
+    // How many of them the checksum goes over once so many pieces were given.
+    fn body_summed(&self, given: u32) -> usize
+        ensures { result ≡ body_summed self.now.size given }
+    {
+        self.size.min(given as usize * PIECE_BYTES)
+    }
+
+    // The checksum over as many bytes more as a piece has, and how far it goes then.
+    fn sum_on(&self, alloc: Global, rows: &RowTable) -> Result<(RowCursor, Digest), AllocError>
+        requires record { IsRecordOf rows.now.rows self.now }
+        requires left { self.now.given < piece_count self.now.units }
+        ensures place { IfOk result (λ p. bytes_before rows.now.rows p.0 ≡ body_summed self.now.size (self.now.given + 1)) }
+        ensures sum { IfOk result (λ p. p.1 ≡ remainder all_ones (record_head self.now.number (row_sets rows.now.rows) ++
+            take (body_summed self.now.size (self.now.given + 1)) (ops_bytes (row_sets rows.now.rows)))) }
+    {
+        let count = self.body_summed(self.given + 1) - self.body_summed(self.given);
+        let bytes = rows.spelled(alloc, &self.summed, count)?;
+        let summed = rows.behind(alloc, &self.summed, count)?;
+        let mut digest = self.digest;
+        digest.update(&bytes);
+        Ok((summed, digest))
+    }
+
+    // The record once the next piece is given, which is so many units from this one on.
+    fn one_on(
+        &self,
+        alloc: Global,
+        rows: &RowTable,
+        first: u32,
+        count: u32,
+    ) -> Result<RowsRecord, AllocError>
+        requires record { IsRecordOf rows.now.rows self.now }
+        requires left { self.now.given < piece_count self.now.units }
+        requires first { first ≡ piece_first self.now.units self.now.given }
+        requires count { count ≡ piece_units self.now.units self.now.given }
+        ensures record { IfOk result (IsRecordOf rows.now.rows) }
+        ensures on { IfOk result (IsOneOn self.now) }
+    {
+        let (summed, digest) = self.sum_on(alloc, rows)?;
+        let size = self.body_before(first + count) - self.body_before(first);
+        let front = rows.before(alloc, &self.front, size)?;
+        Ok(RowsRecord {
+            number: self.number,
+            count: self.count,
+            size: self.size,
+            units: self.units,
+            given: self.given + 1,
+            front,
+            summed,
+            digest,
+        })
+    }
+
+    // The head, the checksum as it is now, and bytes of the body.
+    fn headed(&self, alloc: Global, body: &[u8]) -> Result<Vec<u8>, AllocError>
+        requires { self.now.size < 2 ^ 32 }
+        ensures { IfOk result (λ bytes. bytes.items ≡ head_of self.now.number self.now.count self.now.size ++
+            to_le_bytes w32 (bit_xor self.now.digest all_ones) ++ body.now) }
+    {
+        let mut bytes = Vec::with_capacity(alloc, body.len().saturating_add(HEAD_BYTES))?;
+        push_head(&mut bytes, self.number, self.count, self.size as u32)?;
+        let digest = self.digest;
+        push_u32_le(&mut bytes, digest.finish())?;
+        bytes.extend_from_slice(body)?;
+        Ok(bytes)
+    }
+
+    // The bytes of so many units from the first one on that was given, without the zeros that fill up the last.
+    fn unfilled(
+        &self,
+        alloc: Global,
+        rows: &RowTable,
+        first: u32,
+        count: u32,
+    ) -> Result<Vec<u8>, AllocError>
+        requires record { IsRecordOf rows.now.rows self.now }
+        requires first { first ≡ given_from self.now.units self.now.given }
+        requires some { 0 < count }
+        requires within { first + count ≤ self.now.units }
+        ensures { IfOk result (λ bytes. bytes.items ≡ take (4096 * count) (drop (4096 * first)
+            (record_bytes self.now.number (row_sets rows.now.rows)))) }
+    {
+        let size = self.body_before(first + count) - self.body_before(first);
+        let body = rows.spelled(alloc, &self.front, size)?;
+        if first == 0 {
+            self.headed(alloc, &body)
+        } else {
+            Ok(body)
+        }
+    }
+
+    // The bytes of so many units from the first one on that was given.
+    fn spelled(
+        &self,
+        alloc: Global,
+        rows: &RowTable,
+        first: u32,
+        count: u32,
+    ) -> Result<Vec<u8>, AllocError>
+        requires record { IsRecordOf rows.now.rows self.now }
+        requires first { first ≡ given_from self.now.units self.now.given }
+        requires some { 0 < count }
+        requires within { first + count ≤ self.now.units }
+        ensures { IfOk result (λ bytes. bytes.items ≡ units_from first count (record_units self.now.number (row_sets rows.now.rows))) }
+    {
+        let mut bytes = self.unfilled(alloc, rows, first, count)?;
+        bytes.resize(count as usize * UNIT_BYTES, 0)?;
+        Ok(bytes)
+    }
+
+    /// The next piece, by the cut of a `SealedRecord`. It isn't given yet: the record stays as it is, and the one that comes with the piece
+    /// takes its place once the device took the bytes. So want of memory leaves all as it was.
+    pub fn piece(&self, alloc: Global, rows: &RowTable) -> Result<RowsPiece, AllocError>
+        requires record { IsRecordOf rows.now.rows self.now }
+        requires left { self.now.given < piece_count self.now.units }
+        ensures first { IfOk result (λ piece. piece.first ≡ piece_first self.now.units self.now.given) }
+        ensures bytes { IfOk result (λ piece. piece.bytes.items ≡ piece_bytes (record {
+          number = self.now.number;
+          ops = row_sets rows.now.rows;
+        }) self.now.given) }
+        ensures record { IfOk result (λ piece. IsRecordOf rows.now.rows piece.then) }
+        ensures on { IfOk result (λ piece. IsOneOn self.now piece.then) }
+    {
+        let first = self.first();
+        let count = PIECE_UNITS.min(self.units - first);
+        let then = self.one_on(alloc, rows, first, count)?;
+        let bytes = then.spelled(alloc, rows, first, count)?;
+        Ok(RowsPiece { first, bytes, then })
+    }
+}

@@ -6,7 +6,7 @@ use Rattle.block_device.specs.declared.event.Event.{Event}
 use Rattle.block_device.specs.declared.event.Event.TheVariants.{Done}
 use Rattle.block_device.specs.Prelude.{Disk, IsSound, History, history_after, Waited}
 use Rattle.store_steps.specs.declared.step.Step.TheVariants.{Reap}
-use Rattle.store_steps.specs.Prelude.{State, reaped, Takes, Call, stepping, Calls, IsRun}
+use Rattle.store_steps.specs.Prelude.{State, Takes, Call, stepping, Calls, IsRun}
 use Rattle.run_facts.proofs.Prelude.{end_book}
 use Rattle.log_replay.specs.Prelude.{Told, GoesOn, IsLater}
 use Rattle.mount_replay.specs.Mounting.{IsReapedTo}

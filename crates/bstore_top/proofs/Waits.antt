@@ -13,14 +13,11 @@ use Rattle.object_model.specs.declared.book.Entry.{Entry}
 use Rattle.object_model.specs.declared.command.Command.{Command}
 use Rattle.object_model.specs.declared.command.Command.TheVariants as command
 use Rattle.script_text.specs.declared.line.Line.{Line}
-use Rattle.store_steps.specs.declared.flight.Flying.{Flying}
-use Rattle.store_steps.specs.declared.flight.Job.{Job}
-use Rattle.store_steps.specs.declared.flight.Job.TheVariants as job
 use Rattle.store_steps.specs.declared.step.Step.{Step}
 use Rattle.store_steps.specs.declared.step.Step.TheVariants as steps
-use Rattle.store_steps.specs.Prelude.{State, landed, after_done, after_good, flying_of, Call, stepping, Submits, Reads, DoesOrFails, Calls}
-use Rattle.run_facts.specs.Prelude.{AcksAre, IsKept}
-use Rattle.run_facts.proofs.Prelude.{kept_call}
+use Rattle.store_steps.specs.Prelude.{State, Call, stepping, Submits, Reads, DoesOrFails, Calls}
+use Rattle.run_facts.specs.Prelude.{AcksAre, IsKept, BookStep, book_same, book_commits, book_acks}
+use Rattle.run_facts.proofs.Prelude.{book_step, kept_call}
 use Rattle.book_facts.specs.Prelude.{commit_places}
 use Rattle.book_facts.proofs.Prelude.{places_acknowledged}
 use Rattle.draft_rows.proofs.PlanLaws.{plans_keep}
@@ -60,49 +57,26 @@ book_stays old new same = record {
   commits = with_none _ _ (ap (λ (b : Book). commit_places b.commits) same);
 }
 
-after_done_book : (j : Job) (s : State) → (after_done j s).book ≡ s.book
-after_done_book (job.Data place count) s = refl
-after_done_book job.DataFlush s = refl
-after_done_book job.Record s = refl
-after_done_book job.RecordFlush s = refl
-
-after_good_book : (f : Option Flying) (s : State) → (after_good f s).book ≡ s.book
-after_good_book None s = refl
-after_good_book (Some f) s = after_done_book f.job s
-
-landed_book : (down : Bool) (f : Option Flying) (s : State) → (cond down s (after_good f s)).book ≡ s.book
-landed_book true f s = refl
-landed_book false f s = after_good_book f s
-
-book_of : (s t : State) → s ≡ t → s.book ≡ t.book
-book_of s t same = ap (λ (z : State). z.book) same
-
 places_behind : (cs : List Commit) (c : Commit) → commit_places (cs ++ c ∷ []) ≡ commit_places cs ++ c.place ∷ []
 places_behind [] c = refl
 places_behind (x ∷ cs) c = ap (λ (l : List ℕ). x.place ∷ l) (places_behind cs c)
 
 pub step_goes_on : (step : Step) (s : State) (d : Disk) (s' : State) (d' : Disk) → DoesOrFails step s d s' d' → BookGoesOn s.book s'.book
-step_goes_on steps.Data s d s' d' does = book_stays _ _ (book_of s' _ does.after)
-step_goes_on steps.Reap s d s' d' (inl (inl took)) =
-    book_stays _ _ (book_of s' _ took.after ∙ landed_book (is_some s.down) (flying_of took.ticket s.flying) (landed took.ticket s))
-step_goes_on steps.Reap s d s' d' (inl (inr waited)) = book_stays _ _ (book_of s' s waited.1)
-step_goes_on steps.Reap s d s' d' (inr took) = book_stays _ _ (book_of s' _ took.after)
-step_goes_on steps.Take s d s' d' does = record {
-  entries = ap (λ (z : State). z.book.entries) does.after;
-  commits = (
-    does.context.place ∷ [],
-    ap (λ (z : State). commit_places z.book.commits) does.after ∙ places_behind s.book.commits (record { place = does.context.place; acked_at = None }),
-  );
-}
-step_goes_on steps.Flush s d s' d' does = book_stays _ _ (book_of s' _ does.after)
-step_goes_on steps.Seal s d s' d' does = book_stays _ _ (book_of s' _ does.after)
-step_goes_on steps.Record s d s' d' does = book_stays _ _ (book_of s' _ does.after)
-step_goes_on steps.Sync s d s' d' does = book_stays _ _ (book_of s' _ does.after)
-step_goes_on steps.Commit s d s' d' does = book_stays _ _ (book_of s' _ does.after)
-step_goes_on steps.Finish s d s' d' does = record {
-  entries = ap (λ (z : State). z.book.entries) does.after;
-  commits = with_none _ _ (ap (λ (z : State). commit_places z.book.commits) does.after ∙ places_acknowledged s.events s.book.commits);
-}
+step_goes_on step s d s' d' does = of_book step (book_step step s d s' d' does)
+  where
+    of_book : (step : Step) → BookStep s s' step → BookGoesOn s.book s'.book
+    of_book step (book_same is) = book_stays s.book s'.book is
+    of_book steps.Take (book_commits place is) = record {
+      entries = ap (λ (b : Book). b.entries) is;
+      commits = (
+        place ∷ [],
+        ap (λ (b : Book). commit_places b.commits) is ∙ places_behind s.book.commits (record { place = place; acked_at = None }),
+      );
+    }
+    of_book steps.Finish (book_acks is) = record {
+      entries = ap (λ (b : Book). b.entries) is;
+      commits = with_none _ _ (ap (λ (b : Book). commit_places b.commits) is ∙ places_acknowledged s.events s.book.commits);
+    }
 
 -- ---- commands of clients
 

@@ -7,9 +7,9 @@ use Rattle.block_device.specs.declared.event.Event.{Event}
 use Rattle.object_model.specs.declared.book.Book.{Book}
 use Rattle.unit_allocator.specs.Prelude.{Space}
 use Rattle.script_text.specs.declared.line.Line.{Line}
-use Rattle.store_steps.specs.declared.step.Step.{Step}
-use Rattle.store_steps.specs.declared.step.Step.TheVariants.{Data, Reap, Take, Flush, Seal, Record, Sync, Commit, Finish}
-use Rattle.store_steps.specs.Prelude.{State, Found, free_count, Call, submitting, reading, stepping, DoesOrFails, Calls, IsRun}
+use Rattle.store_steps.specs.Prelude.{State, Found, free_count, Call, submitting, reading, stepping, Calls, IsRun}
+use Rattle.flight_facts.specs.Prelude.{DeviceGoes, rests, submits, takes_end, gives_none}
+use Rattle.flight_facts.proofs.Prelude.{device_goes}
 use Rattle.run_facts.specs.Prelude.{IsKept}
 use Rattle.crash_facts.specs.Store.{KeepsDurable}
 use Rattle.log_replay.specs.Prelude.{Told, GoesOn, IsLater, FailsMount, SubmitsNothing}
@@ -85,25 +85,18 @@ grown_by d e d' event same units depth history =
     subst (λ (h : Option History). Told GoesOn d.history h) (sym history) (told_grown d.history event) in
     subst (λ (z : Disk). WentOn d z) (sym same) (record { units = units; depth = depth; told = told })
 
-step_goes_on : (step : Step) (s : State) (d : Disk) (s' : State) (d' : Disk) → DoesOrFails step s d s' d' → WentOn d d'
-step_goes_on Data s d s' d' does = grown_by d _ d' _ does.submitted.after refl refl refl
-step_goes_on Reap s d s' d' (inl (inl took)) = grown_by d _ d' _ took.ended.after refl refl refl
-step_goes_on Reap s d s' d' (inl (inr (inl none, after))) = went_equal d d' none.1
-step_goes_on Reap s d s' d' (inl (inr (inr waits, after))) = subst (λ (z : Disk). WentOn d z) (sym waits.2)
+device_goes_on : (d d' : Disk) → DeviceGoes d d' → WentOn d d'
+device_goes_on d d' (rests same) = went_equal d d' same
+device_goes_on d d' (submits ticket event sent) = grown_by d _ d' _ sent.after refl refl refl
+device_goes_on d d' (takes_end ticket ok ended) = grown_by d _ d' _ ended.after refl refl refl
+device_goes_on d d' (gives_none (inl none)) = went_equal d d' none.1
+device_goes_on d d' (gives_none (inr waits)) = subst (λ (z : Disk). WentOn d z) (sym waits.2)
     (record { units = refl; depth = refl; told = told_start GoesOn d.history goes_on_same })
-step_goes_on Reap s d s' d' (inr took) = grown_by d _ d' _ took.ended.after refl refl refl
-step_goes_on Take s d s' d' does = went_equal d d' does.same
-step_goes_on Flush s d s' d' does = grown_by d _ d' _ does.submitted.after refl refl refl
-step_goes_on Seal s d s' d' does = went_equal d d' does.same
-step_goes_on Record s d s' d' does = grown_by d _ d' _ does.submitted.after refl refl refl
-step_goes_on Sync s d s' d' does = grown_by d _ d' _ does.submitted.after refl refl refl
-step_goes_on Commit s d s' d' does = went_equal d d' does.same
-step_goes_on Finish s d s' d' does = went_equal d d' does.same
 
 call_goes_on : (call : Call) (s : State) (d : Disk) (s' : State) (d' : Disk) → Calls call s d s' d' → WentOn d d'
 call_goes_on (submitting client line change) s d s' d' calls = went_equal d d' calls.2
 call_goes_on (reading client line command) s d s' d' calls = went_equal d d' calls.2
-call_goes_on (stepping step) s d s' d' calls = step_goes_on step s d s' d' calls.1
+call_goes_on (stepping step) s d s' d' calls = device_goes_on d d' (device_goes step s d s' d' calls.1)
 
 run_goes_on : (calls : List Call) (s : State) (d : Disk) (s' : State) (d' : Disk) → IsRun s d calls s' d' → WentOn d d'
 run_goes_on [] s d s' d' run = went_equal d d' run.1

@@ -11,10 +11,10 @@ use Rattle.object_model.specs.declared.book.Commit.{Commit}
 use Rattle.object_model.specs.declared.book.Entry.{Entry}
 use Rattle.store_steps.specs.declared.step.Step.{Step}
 use Rattle.store_steps.specs.declared.step.Step.TheVariants.{Take, Finish}
-use Rattle.store_steps.specs.Prelude.{State, is_ready, Does, Call, stepping, Calls, intents, acknowledged}
+use Rattle.store_steps.specs.Prelude.{State, is_ready, Does, DoesOrFails, Call, stepping, Calls, intents, acknowledged}
 use Rattle.store_kernel.specs.declared.step_fail.StepFail.{StepFail}
-use Rattle.run_facts.specs.Prelude.{IsKept}
-use Rattle.run_facts.proofs.Prelude.{ready_by_table, finish_ready, all_left}
+use Rattle.run_facts.specs.Prelude.{IsKept, BookStep, book_same, book_commits, book_acks}
+use Rattle.run_facts.proofs.Prelude.{does_well, book_step, step_entries, ready_by_table, finish_ready, all_left}
 use Rattle.draft_rows.proofs.PlanLaws.{plans_keep}
 use Rattle.book_facts.specs.Prelude.{commit_places, places, IsInOrder}
 use Rattle.book_facts.proofs.Prelude.{order_run}
@@ -24,7 +24,6 @@ use Rattle.client_runs.specs.Prelude.{unacked, IsClient, one_less, able_of, chan
 use Rattle.client_runs.proofs.DrawLemmas.{item_at}
 use Rattle.client_runs.proofs.ClientLemmas.{length_changed, well_changed}
 use Rattle.client_runs.proofs.TieLemmas.{one_if, unacked_by, acknowledged_push, acknowledged_next, not_acknowledged, counted_off, accepted_of, count_at, counts_by, counts_changed}
-use Rattle.client_runs.proofs.RunLemmas.{BookStep, book_same, book_commits, book_acks, book_step, does_well}
 
 -- ---- the order
 
@@ -36,11 +35,6 @@ order_one call s d s' d' kept order called sound =
 -- ---- steps other than an acknowledgement
 
 module _ (s s' : State) where
-  pub entries_step : (step : Step) → BookStep s s' step → s'.book.entries ≡ s.book.entries
-  entries_step step (book_same e) = ap (λ (b : Book). b.entries) e
-  entries_step Take (book_commits place e) = ap (λ (b : Book). b.entries) e
-  entries_step Finish (book_acks e) = ap (λ (b : Book). b.entries) e
-
   unacked_step : (step : Step) → BookStep s s' step → (step ≡ Finish → ⊥) → (m : ℕ) → unacked m s'.book ≡ unacked m s.book
   unacked_step step (book_same e) never m = ap (λ (b : Book). unacked m b) e
   unacked_step Take (book_commits place e) never m =
@@ -62,9 +56,10 @@ module _ (s s' : State) where
   pub step_tied : (clients : Clients) (d d' : Disk) (step : Step) → IsKept s d → is_ready step d.depth s ≡ true → AreTied clients s
       → Does step s d s' d' → IsSound d' → (step ≡ Finish → ⊥) → AreTied clients s'
   step_tied clients d d' step kept ready tied does sound never =
-      let book : BookStep s s' step = book_step step s d s' d' does in
-      tied_by clients tied (order_one (stepping step) s d s' d' kept tied.order (ready, does_well step s d s' d' does) sound)
-      (entries_step step book) (unacked_step step book never)
+      let well : DoesOrFails step s d s' d' = does_well step s d s' d' does in
+      let book : BookStep s s' step = book_step step s d s' d' well in
+      tied_by clients tied (order_one (stepping step) s d s' d' kept tied.order (ready, well) sound)
+      (step_entries step s s' book) (unacked_step step book never)
 
   pub step_tied_ok : (r : Result (Unit {0}) StepFail) (clients : Clients) (d d' : Disk) (step : Step) → IsKept s d → is_ready step d.depth s ≡ true
       → AreTied clients s → OnOk r (Does step s d s' d') → IsSound d' → (step ≡ Finish → ⊥) → OnOk r (AreTied clients s')
@@ -128,10 +123,6 @@ pub record CountsOff (client : ℕ) (s s' : State) : Type 0 where
   pub one : unacked client s'.book + 1 ≡ unacked client s.book
   pub others : (m : ℕ) → m ≢ client → unacked m s'.book ≡ unacked m s.book
   pub entries : s'.book.entries ≡ s.book.entries
-
-acks_of : (s s' : State) → BookStep s s' Finish → (s'.book ≡ s.book → ⊥) → s'.book ≡ record s.book { commits = acknowledged s.events s.book.commits }
-acks_of s s' (book_same e) never = absurd (never e)
-acks_of s s' (book_acks e) never = e
 
 module _ (client : ℕ) (s : State) (d : Disk) (s' : State) (kept : IsKept s d) (order : IsInOrder s) (next : IsAckedNext client s)
     (book : s'.book ≡ record s.book { commits = acknowledged s.events s.book.commits }) where

@@ -12,7 +12,8 @@ use Rattle.client_runs.specs.declared.drawing.Drawn.{Drawn}
 use Rattle.client_runs.specs.declared.drawing.Drawn.TheVariants as drawn
 use Rattle.client_runs.specs.Prelude.{Ask, ready_list, possible_calls, turned, IsDrawnOf, at_position, LeadsTo, LacksMemory, able_of, lefts, AreTied, IsDrawnFrom, IsNothing, position_of, StepsOn, DrawsClient, DrawsNothing, StopsAs}
 use Rattle.client_runs.proofs.DrawLemmas.{ready_passes, drawn_step, no_calls}
-use Rattle.client_runs.proofs.RunLemmas.{stays, leads_more, IsUpWith, step_keeps, does_well, bad_end_down, bad_end_same}
+use Rattle.run_facts.proofs.Prelude.{does_well, goes_down}
+use Rattle.client_runs.proofs.RunLemmas.{stays, leads_more, IsUpWith, step_keeps, bad_end_same}
 
 -- a step that is drawn is ready
 pub drawn_ready : (able : List ℕ) (depth : ℕ) (s : State) (x : ℕ) (step : Step) (x' : ℕ) → IsDrawnFrom able (ready_list depth s) x (drawn.Step step) x'
@@ -114,7 +115,7 @@ module _ (x0 : ℕ) (c0 : Clients) (s0 : State) (d0 : Disk) (x : ℕ) (c : Clien
         x = x';
         leads = subst (λ (l : List (List Ask)). LeadsTo (position_of x0 c0 s0 d0) (at_position x' l s' d')) so_far.same
             (one_more_step step x' s' d' from fails sound);
-        ended = bad_end_down s d s' d' bad.1;
+        ended = goes_down s d s' d' bad.1;
         entries = bad_end_same s d s' d' bad.1 ∙ so_far.entries;
       }
 
@@ -189,6 +190,6 @@ module _ (x0 : ℕ) (s0 : State) (d0 : Disk) (x : ℕ) (s : State) (d : Disk) (s
       record {
         x = x';
         leads = drains_more step x' s' d' from fails sound;
-        ended = bad_end_down s d s' d' bad.1;
+        ended = goes_down s d s' d' bad.1;
         entries = bad_end_same s d s' d' bad.1 ∙ so_far.here.same;
       }

@@ -1,16 +1,13 @@
 -- Steps that take the ends of what is in flight, one after another.
 use Rattle.std.proofs.Common.{◌≡◌, ◌≢◌, inl, inr, ℕ, ◌+◌, ◌-◌, ◌*◌, ◌<◌, Bool, true, false, List, [], ◌∷◌, ◌++◌, length, Option, None, Some}
-use Rattle.std.proofs.Common.{cond, is_some, refl, sym, ap, subst, ◌∙◌, arith}
+use Rattle.std.proofs.Common.{refl, sym, ap, subst, ◌∙◌, arith}
 use Rattle.std.proofs.lemmas.List.Elements.{All-push, All-from_recursion}
-use Rattle.block_device.specs.declared.device.Ticket.{Ticket}
 use Rattle.block_device.specs.declared.event.Event.{Event}
 use Rattle.block_device.specs.declared.event.Event.TheVariants.{Done}
 use Rattle.block_device.specs.Prelude.{Disk, IsSound, History, history_after, Waited}
 use Rattle.store_steps.specs.declared.step.Step.TheVariants.{Reap}
-use Rattle.store_steps.specs.declared.flight.Flying.{Flying}
-use Rattle.store_steps.specs.declared.flight.Job.{Job}
-use Rattle.store_steps.specs.declared.flight.Job.TheVariants as job
-use Rattle.store_steps.specs.Prelude.{State, after_done, after_good, flying_of, landed, reaped, Takes, Call, stepping, Calls, IsRun}
+use Rattle.store_steps.specs.Prelude.{State, Takes, Call, stepping, Calls, IsRun}
+use Rattle.run_facts.proofs.Prelude.{end_book}
 use Rattle.log_replay.specs.Prelude.{Told, GoesOn, IsLater}
 use Rattle.mount_replay.specs.Mounting.{IsReapedTo}
 use Rattle.log_replay.proofs.ZeroLemmas.{told_start, goes_on_same, goes_on_join}
@@ -29,24 +26,6 @@ run_more (c ∷ calls) call s d t e t' e' run step sound =
     let behind = first.1 in (run.0, (rest.0, (first.0, (behind.0, run_more calls call run.0 rest.0 t e t' e' behind.1 step sound))))
 
 -- ---- what one step keeps
-
-done_book : (j : Job) (s : State) → (after_done j s).book ≡ s.book
-done_book (job.Data place count) s = refl
-done_book job.DataFlush s = refl
-done_book job.Record s = refl
-done_book job.RecordFlush s = refl
-
-good_book : (o : Option Flying) (s : State) → (after_good o s).book ≡ s.book
-good_book None s = refl
-good_book (Some f) s = done_book f.job s
-
-reaped_book : (ticket : Ticket) (ok : Bool) (s : State) → (reaped ticket ok s).book ≡ s.book
-reaped_book ticket false s = refl
-reaped_book ticket true s = by_test (is_some s.down)
-  where
-    by_test : (b : Bool) → (cond b (landed ticket s) (after_good (flying_of ticket s.flying) (landed ticket s))).book ≡ s.book
-    by_test true = refl
-    by_test false = good_book (flying_of ticket s.flying) (landed ticket s)
 
 -- the history with one more event goes on
 told_grown : (o : Option History) (event : Event) → Told GoesOn o (history_after o event)
@@ -69,7 +48,7 @@ took : (s : State) (d : Disk) (ok : Bool) (s' : State) (d' : Disk) → Takes s d
 took s d ok s' d' takes =
     let after = takes.ended.after in
     let waits : d'.waits ≡ 0 = ap (λ (x : Disk). x.waits) after in record {
-      book = ap (λ (x : State). x.book) takes.after ∙ reaped_book takes.ticket ok s;
+      book = ap (λ (x : State). x.book) takes.after ∙ end_book takes.ticket ok s;
       units = ap (λ (x : Disk). x.units) after;
       depth = ap (λ (x : Disk). x.depth) after;
       told = subst (λ o. Told GoesOn d.history o) (sym (ap (λ (x : Disk). x.history) after)) (told_grown d.history (Done takes.ticket.place ok));

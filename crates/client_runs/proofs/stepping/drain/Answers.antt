@@ -1,8 +1,7 @@
 use Rattle.std.proofs.Common.{Err, [], ap, arith, refl}
 use Rattle.std.proofs.lemmas.Result.{err_from_is_err_and}
 use Rattle.store_kernel.specs.declared.step_fail.StepFail.{StepFail}
-use Rattle.run_facts.proofs.Prelude.{work_falls}
-use Rattle.client_runs.proofs.RunLemmas.{does_well}
+use Rattle.run_facts.proofs.Prelude.{work_falls, does_well}
 use Rattle.client_runs.proofs.SteppingLemmas.{given, drawn_ready, drain_goes_on, drain_stops}
 use Rattle.client_runs.proofs.stepping.drain.Goals as goal
 

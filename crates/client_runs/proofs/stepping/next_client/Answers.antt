@@ -1,9 +1,8 @@
 use Rattle.std.proofs.Common.{Err, List, ℕ, ap, arith, length}
 use Rattle.std.proofs.lemmas.Result.{err_from_is_err_and}
 use Rattle.store_kernel.specs.declared.step_fail.StepFail.{StepFail}
-use Rattle.run_facts.proofs.Prelude.{work_falls}
+use Rattle.run_facts.proofs.Prelude.{work_falls, does_well}
 use Rattle.client_runs.proofs.ClientLemmas.{able_few}
-use Rattle.client_runs.proofs.RunLemmas.{does_well}
 use Rattle.client_runs.proofs.SteppingLemmas.{given, none_given, drawn_ready, steps_go_on, steps_stop, draws_none}
 use Rattle.client_runs.proofs.stepping.next_client.Goals as goal
 

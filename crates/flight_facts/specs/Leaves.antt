@@ -16,5 +16,6 @@ pub data DeviceGoes (d d' : Disk) : Type 0 where
 -- the book stays; a commit that isn't acknowledged comes last, where a batch is opened; or the next one is acknowledged
 pub data BookStep (s s' : State) : Step → Type 0 where
   book_same : {step : Step} → s'.book ≡ s.book → BookStep s s' step
-  book_commits : (place : ℕ) → s'.book ≡ record s.book { commits = s.book.commits ++ record { place = place; acked_at = None } ∷ [] } → BookStep s s' Take
+  book_commits : (place : ℕ) → s'.book ≡ record s.book { commits = s.book.commits ++ record { place = place; acked_at = None } ∷ [] }
+      → BookStep s s' Take
   book_acks : s'.book ≡ record s.book { commits = acknowledged s.events s.book.commits } → BookStep s s' Finish

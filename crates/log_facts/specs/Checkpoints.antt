@@ -30,7 +30,8 @@ pub record OtherHalfRests (h : History) (s : Super) (is_stale : ℕ → Bool) : 
 
 -- The half of the superblock `t`, which is to come, is written: the records `recs` make the rows, and are to stand in its first `tail` units, with
 -- zeros behind them. Each unit was last written with what it is to hold, but for those that are left; the flush is for all of them.
-pub record CheckpointStands (h : History) (t : Super) (rows : Rows) (tail : ℕ) (recs : List (List RowOp)) (is_left : ℕ → Bool) (flush : FlushState) : Type 0 where
+pub record CheckpointStands (h : History) (t : Super) (rows : Rows) (tail : ℕ) (recs : List (List RowOp)) (is_left : ℕ → Bool)
+    (flush : FlushState) : Type 0 where
   pub made : rows ≡ rows_of_records map.empty recs
   pub spellable : AreSpellable t.first recs
   pub whole : IsUnits tail (records_units t.first recs)

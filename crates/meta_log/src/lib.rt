@@ -3,8 +3,8 @@
 //! It stands in the place of RocksDB's write-ahead log and of BlueFS under it in Ceph's BlueStore; the slots are its superblock.
 //!
 //! Proved: one active slot, one list of records; `Super::read` is None exactly where a slot isn't valid; a sealed record's pieces are the
-//! record's units, its head last, and so are those of the record of a table's rows, each spelled from the table alone; `record_units` says by the head alone how many units a record takes; `scan` finds exactly the valid
-//! records of a half.
+//! record's units, its head last, and so are those of the record of a table's rows, each spelled from the table alone; `record_units`
+//! says by the head alone how many units a record takes; `scan` finds exactly the valid records of a half.
 #![tactic(auto)]
 
 mod laws;

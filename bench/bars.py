@@ -19,7 +19,7 @@ def ratios(files):
     for file in files:
         for line in open(file, encoding="utf-8"):
             found = LINE.match(line.rstrip())
-            if found and float(found[2]) <= 4 and " in " not in found[1]:
+            if found and float(found[2]) <= 4 and not re.search(", in |memory|flushes", found[1]):
                 yield found[1], float(found[2]), found[3], float(found[4]), found[5]
 
 

@@ -4,7 +4,8 @@ use Rattle.std.specs.FinMap as map
 use Rattle.meta_rows.specs.declared.row_op.RowOp.{RowOp}
 use Rattle.meta_rows.specs.Prelude.{Rows, rows_after, rows_of_records, row_sets}
 use Rattle.meta_rows.proofs.SetLemmas.{rows_made}
-use Rattle.log_facts.specs.Prelude.{IsSpellable, AreSpellable, one_record, check_records}
+use Rattle.meta_log.specs.Prelude.{one_record, check_records}
+use Rattle.log_facts.specs.Prelude.{IsSpellable, AreSpellable}
 
 of_one_record : (rows : Rows) (ops : List RowOp) → rows_of_records rows (one_record ops) ≡ rows_after rows ops
 of_one_record rows [] = refl

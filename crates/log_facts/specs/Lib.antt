@@ -5,5 +5,4 @@ pub mod CrashRows
 pub mod Soundness
 pub mod FoundHalf
 pub mod Checkpoints
-pub mod RowRecords
 pub mod Prelude

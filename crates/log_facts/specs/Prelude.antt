@@ -6,4 +6,3 @@ pub use Rattle.log_facts.specs.CrashRows.{HasBegunRecord, LeavesRows}
 pub use Rattle.log_facts.specs.Soundness.{SoundFor}
 pub use Rattle.log_facts.specs.FoundHalf.{RecordsStand, EndsInZeros}
 pub use Rattle.log_facts.specs.Checkpoints.{other_unit, next_super, target_unit, OtherHalfRests, CheckpointStands, NextSlotStands, LeavesEither}
-pub use Rattle.log_facts.specs.RowRecords.{one_record, check_records, check_units}

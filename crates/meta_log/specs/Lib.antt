@@ -4,4 +4,6 @@ pub mod Pieces
 pub mod Sealed
 pub mod Scanning
 pub mod RowsRecords
+pub mod CheckRecords
+pub mod CheckRuns
 pub mod Prelude

@@ -5,3 +5,5 @@ pub use Rattle.meta_log.specs.Pieces.{piece_count, given_from, piece_first, piec
 pub use Rattle.meta_log.specs.Sealed.{Sealed, IsSealable, sealed_units, piece_bytes, IsSpelled}
 pub use Rattle.meta_log.specs.Scanning.{parts_bytes, BeginsWithParts, IsCut, IsAtFront, BeginsNoRecord, TakesUnits, units_of_records}
 pub use Rattle.meta_log.specs.RowsRecords.{body_before, body_summed, IsRecordOf, IsOneOn}
+pub use Rattle.meta_log.specs.CheckRecords.{one_record, check_records, check_units}
+pub use Rattle.meta_log.specs.CheckRuns.{in_run, in_runs, record_runs, cut_run, zero_runs, check_runs}

@@ -9,6 +9,7 @@
 
 mod laws;
 mod rows_record;
+mod runs;
 mod scanning;
 mod sealed;
 mod slot;
@@ -19,6 +20,7 @@ pub use laws::{
     units_of_a_record,
 };
 pub use rows_record::{RowsPiece, RowsRecord};
+pub use runs::UnitRun;
 pub use scanning::{FoundLog, FoundRecord, read_record, record_units, scan};
 pub use sealed::SealedRecord;
 pub use slot::Super;

@@ -2,7 +2,7 @@
 use Rattle.std.specs.Prelude.{ℕ, List, [], ◌∷◌}
 use Rattle.meta_rows.specs.declared.row_op.RowOp.{RowOp}
 use Rattle.meta_rows.specs.Prelude.{Rows, row_sets}
-use Rattle.meta_log.specs.Prelude.{units_of_records}
+use Rattle.meta_log.specs.Scanning.{units_of_records}
 
 -- operations as one record; none make none
 abbrev pub one_record : List RowOp → List (List RowOp)

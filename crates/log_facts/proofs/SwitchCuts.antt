@@ -10,12 +10,12 @@ use Rattle.meta_rows.specs.declared.row_op.RowOp.{RowOp}
 use Rattle.meta_rows.specs.Prelude.{Rows}
 use Rattle.row_format.specs.Prelude.{Body, private, Extent, Row, collection, onode, shard, attribute, omap_header, omap_pair, bitmap}
 use Rattle.meta_log.specs.declared.slot.Super.{Super}
-use Rattle.meta_log.specs.Prelude.{super_bytes, IsValidSlot, IsActiveSlot, width_of}
+use Rattle.meta_log.specs.Prelude.{super_bytes, IsValidSlot, IsActiveSlot, width_of, other_slot, next_super}
 use Rattle.meta_log.proofs.SlotLemmas.{same_super}
 use Rattle.store_image.specs.BadRows.{IsOnData, IsInPlace}
 use Rattle.store_image.specs.Prelude.{NoBadRow, IsExactBut, IsLeakedIn, NoChanceMatch, LeavesPrefix}
 use Rattle.store_image.proofs.Prelude.{equal_or_not}
-use Rattle.log_facts.specs.Prelude.{FlushState, other_slot, IsOlderSlot, ActiveHalfStands, SoundFor, next_super, NextSlotStands, LeavesEither}
+use Rattle.log_facts.specs.Prelude.{FlushState, IsOlderSlot, ActiveHalfStands, SoundFor, NextSlotStands, LeavesEither}
 use Rattle.log_facts.proofs.Reading.{slots_read}
 use Rattle.log_facts.proofs.Crashes.{half_left}
 use Rattle.log_facts.proofs.Cuts.{sound_image, exact_image}

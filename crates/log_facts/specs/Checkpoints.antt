@@ -1,23 +1,14 @@
 -- What is known of the half that isn't in use, at rest and while a checkpoint is written there, and of the slots while its superblock is written.
-use Rattle.std.specs.Prelude.{◌≡◌, ◌⊎◌, ℕ, ◌+◌, ◌*◌, ◌%◌, ◌<◌, ◌≤◌, Bool, false, nat_lt, List, if◌then◌else◌}
+use Rattle.std.specs.Prelude.{◌≡◌, ◌⊎◌, ℕ, ◌+◌, ◌%◌, ◌<◌, ◌≤◌, Bool, false, nat_lt, List, if◌then◌else◌}
 use Rattle.std.specs.FinMap as map
 use Rattle.byte_maps.specs.Units.{unit_at, zeros, IsUnits}
 use Rattle.block_device.specs.Prelude.{History, last_at, SurelyHolds, IsClean}
 use Rattle.meta_rows.specs.declared.row_op.RowOp.{RowOp}
 use Rattle.meta_rows.specs.Prelude.{Rows, rows_of_records}
 use Rattle.meta_log.specs.declared.slot.Super.{Super}
-use Rattle.meta_log.specs.Prelude.{active_unit, super_bytes, IsSuper, IsActiveSlot, AreRowsOf}
+use Rattle.meta_log.specs.Prelude.{active_unit, other_slot, other_unit, next_super, super_bytes, IsSuper, IsActiveSlot, AreRowsOf}
 use Rattle.log_facts.specs.Flushing.{FlushState, IsFlushed}
-use Rattle.log_facts.specs.SlotFacts.{other_slot}
 use Rattle.log_facts.specs.HalfFacts.{records_units, AreSpellable}
-
--- the first unit of the half that isn't in use
-abbrev pub other_unit : Super → ℕ
-other_unit s = 2 + s.half * other_slot s
-
--- The superblock that a checkpoint brings: the next epoch, so the other slot and the other half, whose first record has this number.
-abbrev pub next_super : Super → ℕ → Super
-next_super s number = record s { epoch = s.epoch + 1; first = number }
 
 -- unit k of a half that has these records in its first `tail` units and is zero behind them
 abbrev pub target_unit : ℕ → ℕ → List (List RowOp) → ℕ → List ℕ

@@ -1,12 +1,8 @@
 -- What is known of the two superblock slots while none is being written.
-use Rattle.std.specs.Prelude.{◌≡◌, ℕ, ◌-◌, ◌%◌, ◌<◌, List}
+use Rattle.std.specs.Prelude.{◌≡◌, ℕ, ◌%◌, ◌<◌, List}
 use Rattle.block_device.specs.Prelude.{History, SurelyHolds}
 use Rattle.meta_log.specs.declared.slot.Super.{Super}
-use Rattle.meta_log.specs.Prelude.{super_bytes, IsSuper, IsSlotOf}
-
--- the number of the slot that isn't in use
-abbrev pub other_slot : Super → ℕ
-other_slot s = 1 - s.epoch % 2
+use Rattle.meta_log.specs.Prelude.{super_bytes, IsSuper, IsSlotOf, other_slot}
 
 -- the unit is no valid slot of the same device that is as new as this super
 abbrev pub IsOlderSlot : Super → List ℕ → Type 0

@@ -1,5 +1,5 @@
 -- What other crates and the proofs cite, passed on from one place.
-pub use Rattle.meta_log.specs.Slots.{magic, version_bytes, field_bytes, super_front, super_fields, with_sum, IsSummed, super_bytes, IsSuper, IsSlotOf, IsValidSlot, IsActiveSlot, active_unit, data_unit, width_of}
+pub use Rattle.meta_log.specs.Slots.{magic, version_bytes, field_bytes, super_front, super_fields, with_sum, IsSummed, super_bytes, IsSuper, IsSlotOf, IsValidSlot, IsActiveSlot, active_unit, other_slot, other_unit, next_super, data_unit, width_of}
 pub use Rattle.meta_log.specs.Records.{head_of, record_head, record_bytes, record_units, unit_count, BeginsWithRecord, BeginsWithRecords, AreRecords, active_half, AreRowsOf}
 pub use Rattle.meta_log.specs.Pieces.{piece_count, given_from, piece_first, piece_units, LiesInRecord, IsInPiece}
 pub use Rattle.meta_log.specs.Sealed.{Sealed, IsSealable, sealed_units, piece_bytes, IsSpelled}

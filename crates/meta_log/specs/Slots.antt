@@ -1,5 +1,5 @@
 -- The two superblock slots.
-use Rattle.std.specs.Prelude.{◌≡◌, ℕ, ◌+◌, ◌*◌, ◌%◌, ◌^◌, ◌<◌, ◌≤◌, List, [], ◌∷◌, ◌++◌, length}
+use Rattle.std.specs.Prelude.{◌≡◌, ℕ, ◌+◌, ◌-◌, ◌*◌, ◌%◌, ◌^◌, ◌<◌, ◌≤◌, List, [], ◌∷◌, ◌++◌, length}
 use Rattle.std.specs.Int.{w32, w64, to_le_bytes}
 use Rattle.byte_maps.specs.Units.{unit_at, zeros}
 use Rattle.unit_fields.specs.declared.width.Width.{Width}
@@ -73,6 +73,18 @@ half_unit s half = 2 + s.half * half
 -- the first unit of the half that is in use
 abbrev pub active_unit : Super → ℕ
 active_unit s = half_unit s (s.epoch % 2)
+
+-- the number of the slot that isn't in use
+abbrev pub other_slot : Super → ℕ
+other_slot s = 1 - s.epoch % 2
+
+-- the first unit of the half that isn't in use
+abbrev pub other_unit : Super → ℕ
+other_unit s = 2 + s.half * other_slot s
+
+-- The superblock that a checkpoint brings: the next epoch, so the other slot and the other half, whose first record has this number.
+abbrev pub next_super : Super → ℕ → Super
+next_super s number = record s { epoch = s.epoch + 1; first = number }
 
 -- the first data unit
 abbrev pub data_unit : Super → ℕ

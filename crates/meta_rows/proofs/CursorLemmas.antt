@@ -10,7 +10,7 @@ use Rattle.byte_maps.specs.ByteMap.{byte_order}
 use Rattle.byte_maps.proofs.Prelude.{both_first, both_second}
 use Rattle.meta_rows.specs.declared.row_op.RowOp.TheVariants.{Set}
 use Rattle.meta_rows.specs.declared.part.Part.{Part}
-use Rattle.meta_rows.specs.Prelude.{Rows, op_bytes, ops_bytes, AllFit, rows_size, list_size, rows_from_to, NoneBelow, StartsAt, Entry, joined, sets_of, row_sets, rows_on, IsIn, part_with, Takes}
+use Rattle.meta_rows.specs.Prelude.{Rows, op_bytes, ops_bytes, AllFit, rows_size, list_size, rows_from_to, NoneBelow, StartsAt, Entry, joined, sets_of, row_sets, rows_on, StandsIn, part_with, HasCome}
 use Rattle.meta_rows.proofs.ChunkLemmas.{joined-append}
 use Rattle.meta_rows.proofs.ListSizes.{list_size-append}
 use Rattle.meta_rows.proofs.SetLemmas.{size-sets, same_key}
@@ -56,7 +56,7 @@ part_taken held came here now skip left count left' within here_is count_is now_
     ∙ ap (λ (l : List ℕ). held ++ take left l) (sym behind)
 
 -- bytes come behind others
-pub takes_then : (a b : List ℕ) (p q r : Part) → Takes a p q → Takes b q r → Takes (a ++ b) p r
+pub takes_then : (a b : List ℕ) (p q r : Part) → HasCome a p q → HasCome b q r → HasCome (a ++ b) p r
 takes_then a b p q r first then more = then more ∙ first (b ++ more) ∙ ap (part_with p) (sym (append_assoc a b more))
 
 -- nothing more comes, or nothing more is wanted
@@ -147,7 +147,7 @@ bytes_behind rows key passed =
 
 -- ---- a row among others
 
-pub in_back : (front rows : List Entry) (key : List ℕ) (passed place : ℕ) → IsIn rows key passed place → IsIn (front ++ rows) key passed (list_size front + place)
+pub in_back : (front rows : List Entry) (key : List ℕ) (passed place : ℕ) → StandsIn rows key passed place → StandsIn (front ++ rows) key passed (list_size front + place)
 in_back front rows key passed place i = record {
   front = front ++ i.front;
   value = i.value;
@@ -156,7 +156,7 @@ in_back front rows key passed place i = record {
   place_is = omega (arith, i.place_is, list_size-append front i.front);
 }
 
-pub in_front : (rows back : List Entry) (key : List ℕ) (passed place : ℕ) → IsIn rows key passed place → IsIn (rows ++ back) key passed place
+pub in_front : (rows back : List Entry) (key : List ℕ) (passed place : ℕ) → StandsIn rows key passed place → StandsIn (rows ++ back) key passed place
 in_front rows back key passed place i = record {
   front = i.front;
   value = i.value;
@@ -166,7 +166,7 @@ in_front rows back key passed place i = record {
 }
 
 -- how many bytes lie before a place in its bytes
-pub place_before : (rows : Rows) (key : List ℕ) (passed place : ℕ) → IsIn (map.entries rows) key passed place
+pub place_before : (rows : Rows) (key : List ℕ) (passed place : ℕ) → StandsIn (map.entries rows) key passed place
     → list_size (rows_from_to rows [] (Some key)) + passed ≡ place
 place_before rows key passed place i =
     let es = map.entries rows in
@@ -181,17 +181,17 @@ place_before rows key passed place i =
     ap (λ (l : List Entry). list_size l + passed) front ∙ i.place_is
 
 -- a place in the rows from a key on, and one in those below it
-pub place_on : (rows : Rows) (from : Option (List ℕ)) (key : List ℕ) (passed place : ℕ) → IsIn (rows_on rows from) key passed place
+pub place_on : (rows : Rows) (from : Option (List ℕ)) (key : List ℕ) (passed place : ℕ) → StandsIn (rows_on rows from) key passed place
     → list_size (rows_from_to rows [] (Some key)) + passed ≡ list_size (rows_from_to rows [] from) + place
 place_on rows from key passed place i =
     let below = rows_from_to rows [] from in
-    place_before rows key passed (list_size below + place) (subst (λ (es : List Entry). IsIn es key passed (list_size below + place)) (parted rows from)
+    place_before rows key passed (list_size below + place) (subst (λ (es : List Entry). StandsIn es key passed (list_size below + place)) (parted rows from)
     (in_back below (rows_on rows from) key passed place i))
 
-pub place_below : (rows : Rows) (from : Option (List ℕ)) (key : List ℕ) (passed place : ℕ) → IsIn (rows_from_to rows [] from) key passed place
+pub place_below : (rows : Rows) (from : Option (List ℕ)) (key : List ℕ) (passed place : ℕ) → StandsIn (rows_from_to rows [] from) key passed place
     → list_size (rows_from_to rows [] (Some key)) + passed ≡ place
 place_below rows from key passed place i =
-    place_before rows key passed place (subst (λ (es : List Entry). IsIn es key passed place) (parted rows from)
+    place_before rows key passed place (subst (λ (es : List Entry). StandsIn es key passed place) (parted rows from)
     (in_front (rows_from_to rows [] from) (rows_on rows from) key passed place i))
 
 -- the two ends

@@ -16,7 +16,7 @@ rows_on rows None = []
 rows_on rows (Some key) = rows_from_to rows key None
 
 -- the row of this key stands among rows, and so many bytes lie before it and in those of its own that are passed
-pub record IsIn (rows : List Entry) (key : List ℕ) (passed place : ℕ) : Type 0 where
+pub record StandsIn (rows : List Entry) (key : List ℕ) (passed place : ℕ) : Type 0 where
   pub front : List Entry
   pub value : List ℕ
   pub back : List Entry
@@ -33,5 +33,5 @@ abbrev pub part_with : Part → List ℕ → List ℕ
 part_with p bytes = p.bytes.items ++ take p.left (drop p.skip bytes)
 
 -- these bytes have come: whatever comes behind them, it comes to the same
-abbrev pub Takes : List ℕ → Part → Part → Type 0
-Takes bytes old new = (more : List ℕ) → part_with new more ≡ part_with old (bytes ++ more)
+abbrev pub HasCome : List ℕ → Part → Part → Type 0
+HasCome bytes old new = (more : List ℕ) → part_with new more ≡ part_with old (bytes ++ more)

@@ -7,4 +7,4 @@ pub use Rattle.meta_rows.specs.Filling.{Rises, held_rows, held_value, row_left, 
 pub use Rattle.meta_rows.specs.Merging.{FirstNotBelow, TakesBelow, ops_left, IsMerging, Goes}
 pub use Rattle.meta_rows.specs.Reading.{IsValue, BeginsWithNo, Reads, SpellOps}
 pub use Rattle.meta_rows.specs.Sets.{sets_of, row_sets, RowsFit}
-pub use Rattle.meta_rows.specs.Cursors.{bytes_before, rows_on, IsIn, TakesLast, part_with, Takes}
+pub use Rattle.meta_rows.specs.Cursors.{bytes_before, rows_on, StandsIn, TakesLast, part_with, HasCome}

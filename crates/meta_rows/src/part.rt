@@ -2,7 +2,7 @@
 ghost use Rattle.std.specs.Prelude.{◌≡◌, ◌++◌, ℕ, List, take, drop, IfOk, OnOk};
 ghost use Rattle.meta_rows.specs.Spelling.{op_bytes, FitsRowOp};
 ghost use Rattle.meta_rows.specs.declared.row_op.RowOp.TheVariants.{Set};
-ghost use Rattle.meta_rows.specs.Cursors.{part_with, Takes};
+ghost use Rattle.meta_rows.specs.Cursors.{part_with, HasCome};
 
 use crate::writing::SET;
 use byte_maps::Bytes;
@@ -30,7 +30,7 @@ impl Part {
 
     // Bytes come.
     fn take(&mut self, bytes: &[u8]) -> Result<(), AllocError>
-        ensures { OnOk result (Takes bytes.now self.old self.new) }
+        ensures { OnOk result (HasCome bytes.now self.old self.new) }
     {
         if bytes.len() <= self.skip {
             self.skip -= bytes.len();
@@ -46,7 +46,7 @@ impl Part {
 
     // A key or a value comes, behind the number of its bytes, which is given as bytes.
     fn take_field(&mut self, len: &[u8], bytes: &[u8]) -> Result<(), AllocError>
-        ensures { OnOk result (Takes (len.now ++ bytes.now) self.old self.new) }
+        ensures { OnOk result (HasCome (len.now ++ bytes.now) self.old self.new) }
     {
         self.take(len)?;
         self.take(bytes)
@@ -55,7 +55,7 @@ impl Part {
     /// A row comes, spelled as the operation that sets it.
     pub fn take_row(&mut self, row: &(Bytes, Bytes)) -> Result<(), AllocError>
         requires { FitsRowOp (Set row.now.0 row.now.1) }
-        ensures { OnOk result (Takes (op_bytes (Set row.now.0 row.now.1)) self.old self.new) }
+        ensures { OnOk result (HasCome (op_bytes (Set row.now.0 row.now.1)) self.old self.new) }
     {
         let (key, value) = (row.0.as_slice(), row.1.as_slice());
         self.take(&[SET])?;

@@ -8,7 +8,7 @@ ghost use Rattle.meta_rows.specs.Rows.{Rows};
 ghost use Rattle.meta_rows.specs.Spelling.{ops_bytes, FitsRowOp, AllFit};
 ghost use Rattle.meta_rows.specs.Table.{rows_size, rows_from_to, list_size};
 ghost use Rattle.meta_rows.specs.Sets.{sets_of, row_sets};
-ghost use Rattle.meta_rows.specs.Cursors.{bytes_before, rows_on, IsIn};
+ghost use Rattle.meta_rows.specs.Cursors.{bytes_before, rows_on, StandsIn};
 ghost use Rattle.meta_rows.specs.declared.row_op.RowOp.TheVariants.{Set};
 
 use crate::part::Part;
@@ -104,7 +104,7 @@ fn part_of(
 fn row_behind<'a>(rows: RowRange<'a>, count: usize) -> Option<(&'a Bytes, usize)>
     requires fit { AllFit (sets_of rows) }
     requires most { count ≤ list_size rows }
-    ensures { MatchOption result (count ≡ list_size rows.entry) (λ p. IsIn rows.entry p.0.now p.1 count) }
+    ensures { MatchOption result (count ≡ list_size rows.entry) (λ p. StandsIn rows.entry p.0.now p.1 count) }
 {
     let mut left = count;
     for row in rows {
@@ -122,7 +122,7 @@ fn row_before<'a>(rows: RowRange<'a>, count: usize) -> (&'a Bytes, usize)
     requires fit { AllFit (sets_of rows) }
     requires some { 0 < count }
     requires most { count ≤ list_size rows }
-    ensures { IsIn rows.entry result.0.now result.1 (list_size rows.entry - count) }
+    ensures { StandsIn rows.entry result.0.now result.1 (list_size rows.entry - count) }
 {
     let mut front = rows;
     let mut left = count;

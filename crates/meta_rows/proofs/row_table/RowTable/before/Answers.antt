@@ -1,6 +1,6 @@
 use Rattle.std.proofs.Common.{◌≡◌, ◌+◌, ◌-◌, [], List, ◌∙◌, ap₂, sym, subst, arith}
 use Rattle.std.proofs.lemmas.Result.{IfOk-weaker}
-use Rattle.meta_rows.specs.Prelude.{AllFit, Entry, IsIn, list_size, rows_from_to, sets_of}
+use Rattle.meta_rows.specs.Prelude.{AllFit, Entry, StandsIn, list_size, rows_from_to, sets_of}
 use Rattle.meta_rows.proofs.CursorLemmas.{fit_below, place_below}
 use Rattle.meta_rows.proofs.row_table.RowTable.before.Goals as goal
 
@@ -16,8 +16,8 @@ returns c =
     let place = list_size below - (c.args.count - from.passed) in
     let key = c.row_before-passed.result.0.now in
     let passed = c.row_before-passed.result.1 in
-    let there : IsIn below key passed place =
-    subst (λ (es : List Entry). IsIn es key passed (list_size es - (c.args.count - from.passed))) c.rows_below.ensures c.row_before-passed.ensures in
+    let there : StandsIn below key passed place =
+    subst (λ (es : List Entry). StandsIn es key passed (list_size es - (c.args.count - from.passed))) c.rows_below.ensures c.row_before-passed.ensures in
     let before = place_below rows from.key key passed place there in
     IfOk-weaker c.in_row.result _ _ (λ at is.
     let same : list_size (rows_from_to rows [] at.key) + at.passed ≡ place = ap₂ (λ k p. list_size (rows_from_to rows [] k) + p) is.0 is.1 ∙ before in

@@ -1,6 +1,6 @@
 use Rattle.std.proofs.Common.{◌+◌, [], List, ◌∙◌, ap, ap₂, sym, subst, arith}
 use Rattle.std.proofs.lemmas.Result.{IfOk-weaker}
-use Rattle.meta_rows.specs.Prelude.{AllFit, Entry, IsIn, list_size, rows_from_to, sets_of}
+use Rattle.meta_rows.specs.Prelude.{AllFit, Entry, StandsIn, list_size, rows_from_to, sets_of}
 use Rattle.meta_rows.proofs.CursorLemmas.{fit_on, sizes, place_on}
 use Rattle.meta_rows.proofs.row_table.RowTable.behind.Goals as goal
 
@@ -18,7 +18,7 @@ returns-in-Some c =
     let from = c.args.from.now in
     let key = c.in-Some.key.now in
     let passed = c.in-Some.passed in
-    let there = subst (λ (es : List Entry). IsIn es key passed (from.passed + c.args.count)) c.rows_on.ensures c.in-Some.ensures in
+    let there = subst (λ (es : List Entry). StandsIn es key passed (from.passed + c.args.count)) c.rows_on.ensures c.in-Some.ensures in
     let before = place_on rows from.key key passed (from.passed + c.args.count) there in
     IfOk-weaker c.in_row.result _ _ (λ at is.
     let same = ap₂ (λ k p. list_size (rows_from_to rows [] k) + p) is.0 is.1 ∙ before in

@@ -26,7 +26,10 @@ cut_run (suc most) first (suc less) = record { first = first; count = min 64 (su
 -- what is stale from this unit on
 abbrev pub zero_runs : ℕ → List UnitRun → List UnitRun
 zero_runs units [] = []
-zero_runs units (r ∷ rs) = let first : ℕ = max units r.first in let count : ℕ = r.first + r.count - first in cut_run count first count ++ zero_runs units rs
+zero_runs units (r ∷ rs) =
+    let first : ℕ = max units r.first in
+    let count : ℕ = r.first + r.count - first in
+    cut_run count first count ++ zero_runs units rs
 
 -- all pieces, for a record of so many units
 abbrev pub check_runs : ℕ → List UnitRun → List UnitRun

@@ -1,5 +1,5 @@
 -- The store that is found on a device, as the code has it.
-use Rattle.std.specs.Prelude.{◌≡◌, ◌≤◌, ℕ, ◌+◌, ◌-◌, ◌*◌, List, drop}
+use Rattle.std.specs.Prelude.{◌≡◌, ◌≤◌, ℕ, ◌+◌, ◌-◌, ◌*◌, List, [], drop}
 use Rattle.block_device.specs.Prelude.{Disk, History}
 use Rattle.meta_log.specs.Prelude.{active_half, IsSuper, active_unit}
 use Rattle.unit_allocator.specs.Prelude.{Space}
@@ -13,7 +13,7 @@ use Rattle.log_replay.specs.declared.replaying.FoundStore.{FoundStore}
 
 -- what was found, without the bytes that it was read from
 abbrev pub as_found : FoundStore → Found
-as_found s = record { sup = s.sup; rows = s.log.rows.rows; tail = s.log.tail; number = s.log.number }
+as_found s = record { sup = s.sup; rows = s.log.rows.rows; tail = s.log.tail; number = s.log.number; stale = [] }
 
 -- the first unit behind its records, the end of the half, and of the bytes of the half those between
 abbrev pub first_behind : FoundStore → ℕ

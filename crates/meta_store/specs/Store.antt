@@ -6,6 +6,7 @@ use Rattle.std.specs.Coded.{Coded, coded_ℕ, coded_list}
 use Rattle.meta_rows.specs.declared.row_op.RowOp.{RowOp}
 use Rattle.meta_rows.specs.Prelude.{Rows, rows_after}
 use Rattle.meta_log.specs.declared.slot.Super.{Super}
+use Rattle.meta_log.specs.declared.runs.UnitRun.{UnitRun}
 use Rattle.meta_log.specs.Prelude.{unit_count, piece_count, piece_first, IsSealable, piece_bytes, IsSuper, active_unit, data_unit}
 
 -- a record that is being written: its operations, and how many of its pieces were given and how many of these are written
@@ -14,8 +15,14 @@ pub record Begun : Type 0 where
   pub given : ℕ
   pub written : ℕ
 
+-- a checkpoint that is being written: how many of its pieces were given and how many of these are written
+pub record Checking : Type 0 where
+  pub given : ℕ
+  pub written : ℕ
+
 -- the store: the committed rows, the units of the records in the active half, the next record's number, the units set aside for
--- transactions to come, and the record that is being written
+-- transactions to come, the record that is being written, runs of units of the other half that may not be zero, and the checkpoint that is
+-- being written there
 pub record Meta : Type 0 where
   pub sup : Super
   pub rows : Rows
@@ -23,6 +30,8 @@ pub record Meta : Type 0 where
   pub number : ℕ
   pub reserved : ℕ
   pub begun : Option Begun
+  pub stale : List UnitRun
+  pub check : Option Checking
 
 abbrev pub coded_rows : Coded Rows
 coded_rows = map.code (coded_list coded_ℕ) (coded_list coded_ℕ)
@@ -44,9 +53,18 @@ pub record IsMeta (m : Meta) : Type 0 where
   pub tail_most : m.tail ≤ m.sup.half
   pub begun_fits : IfSome m.begun (IsBegun m.sup.half m.tail m.number)
 
--- a store with these rows and units of records, where nothing is set aside and no record is begun
-abbrev pub found_meta : Super → Rows → ℕ → ℕ → Meta
-found_meta s rows tail number = record { sup = s; rows = rows; tail = tail; number = number; reserved = 0; begun = None }
+-- a store with these rows, units of records and stale units, where nothing is set aside, and neither record nor checkpoint is begun
+abbrev pub found_meta : Super → Rows → ℕ → ℕ → List UnitRun → Meta
+found_meta s rows tail number stale = record {
+  sup = s;
+  rows = rows;
+  tail = tail;
+  number = number;
+  reserved = 0;
+  begun = None;
+  stale = stale;
+  check = None;
+}
 
 -- the units that are neither taken nor set aside
 abbrev pub room_of : Meta → ℕ

@@ -8,7 +8,7 @@ ghost use Rattle.meta_store.specs.Store.{IsMeta, found_meta, room_of, with_begun
 ghost use Rattle.meta_store.specs.Store.{IsAllGiven, IsPieceLeft, IsPieceOut, IsAllWritten, IsNextPiece, LiesBehindTail};
 
 use crate::full::MetaFull;
-use meta_log::{SealedRecord, Super};
+use meta_log::{SealedRecord, Super, UnitRun};
 use meta_rows::RowTable;
 use std::alloc::{AllocError, AllocFailed, Global};
 use std::marker::Model;
@@ -32,6 +32,7 @@ pub struct MetaStore {
     number: u64,
     reserved: u32,
     begun: Option<BegunRecord>,
+    stale: Vec<UnitRun>,
 }
 
 impl Model for MetaStore {
@@ -51,11 +52,17 @@ impl Model for MetaStore {
 
 impl MetaStore {
     /// The store of this superblock with the rows that its log was found to make, the units that its records take, and the number of
-    /// the next one. Nothing is set aside, and no record is begun.
-    pub fn open(sup: &Super, rows: RowTable, tail: u32, number: u64) -> MetaStore
+    /// the next one. `stale` are the units of the other half that may not be zero. Nothing is set aside, and no record is begun.
+    pub fn open(
+        sup: &Super,
+        rows: RowTable,
+        tail: u32,
+        number: u64,
+        stale: Vec<UnitRun>,
+    ) -> MetaStore
         requires limits { IsSuper sup.now }
         requires tail { tail ≤ sup.now.half }
-        ensures { result ≡ found_meta sup.now rows.rows tail number }
+        ensures { result ≡ found_meta sup.now rows.rows tail number stale.items }
     {
         MetaStore {
             sup: *sup,
@@ -64,6 +71,7 @@ impl MetaStore {
             number,
             reserved: 0,
             begun: None,
+            stale,
         }
     }
 

@@ -66,7 +66,7 @@ fn open_on<D: Device>(
         Err(why) => return Err((failed(why), dev)),
     };
     let FoundStore { sup, log, stale: _ } = found;
-    let meta = MetaStore::open(&sup, log.rows, log.tail, log.number);
+    let meta = MetaStore::open(&sup, log.rows, log.tail, log.number, Vec::new(alloc));
     Ok(Kernel::open(alloc, dev, meta, submitted, space, events))
 }
 

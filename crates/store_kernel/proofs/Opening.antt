@@ -2,7 +2,7 @@
 use Rattle.std.proofs.Common.{◌≡◌, ℕ, Bool, true, false, not, ◌||◌, cond, filter, Option, None, List, [], ◌∷◌, refl, ap, ◌∙◌}
 use Rattle.std.specs.List.{list_any}
 use Rattle.meta_rows.specs.Prelude.{Rows}
-use Rattle.meta_store.specs.Store.{Begun, Meta}
+use Rattle.meta_store.specs.Store.{Begun, Checking, Meta}
 use Rattle.object_model.specs.declared.book.Entry.{Entry}
 use Rattle.object_model.specs.declared.book.Commit.{Commit}
 use Rattle.unit_allocator.specs.Prelude.{Space}
@@ -25,6 +25,8 @@ opened_is m rows pending flying entries commits space events unused same none_pe
     ∙ ap (λ (r : ℕ). let t : Meta = record m { reserved = r } in state_of t m.rows [] None [] None events space [] [] 0) unused.none_reserved
     ∙ ap (λ (b : Option Begun). let t : Meta = record m { reserved = 0; begun = b } in state_of t m.rows [] None [] None events space [] [] 0)
     unused.none_begun
+    ∙ ap (λ (c : Option Checking). let t : Meta = record m { reserved = 0; begun = None; check = c } in state_of t m.rows [] None [] None events space [] [] 0)
+    unused.none_checked
 
 -- no step is ready where none of them all is
 pub none_ready : (test : Step → Bool) (steps : List Step) → not (list_any test steps) ≡ is_empty (filter test steps)

@@ -37,12 +37,13 @@ IsStageOf begun (Some b) = is_sealed b.stage ≡ is_some begun
 
 -- what a metadata store has that nobody has used yet: the super, the rows, and where the log stands
 abbrev pub found_of : meta.Meta → Found
-found_of m = record { sup = m.sup; rows = m.rows; tail = m.tail; number = m.number }
+found_of m = record { sup = m.sup; rows = m.rows; tail = m.tail; number = m.number; stale = m.stale }
 
--- nothing is set aside there, and no record is begun
+-- nothing is set aside there, and neither record nor checkpoint is begun
 pub record IsUnused (m : meta.Meta) : Type 0 where
   pub none_reserved : m.reserved ≡ 0
   pub none_begun : m.begun ≡ None
+  pub none_checked : m.check ≡ None
 
 -- the state, of the kernel's fields
 abbrev pub state_of : meta.Meta → Rows → List Context → Option OpenBatch → List Flying → Option Ticket → ℕ → Space

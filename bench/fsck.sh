@@ -69,36 +69,17 @@ wanted '60000 objects: peak memory of fsck over dump, in MiB' "$(ratio "$(($(mid
 # rows_on DISK GOOD|BAD: puts a record of 60000 attributes of an object behind the slots of a new store, and the object's rows where they are
 # to be good.
 rows_on() {
-  python3 - "$1" "$2" <<'END'
-import struct
+  PYTHONPATH="$here/../tests" python3 -B - "$1" "$2" <<'END'
 import sys
 
-TABLE = []
-for byte in range(256):
-    for _ in range(8):
-        byte = byte >> 1 ^ (0x82F63B78 if byte & 1 else 0)
-    TABLE.append(byte)
+from log_record import record_units, set_op
 
-
-def crc32c(text):
-    crc = 0xFFFFFFFF
-    for byte in text:
-        crc = crc >> 8 ^ TABLE[crc & 255 ^ byte]
-    return crc ^ 0xFFFFFFFF
-
-
-def op_set(key, value):
-    return b"\x01" + struct.pack("<H", len(key)) + key + struct.pack("<I", len(value)) + value
-
-
-rows = [op_set(b"A1.0_head\0a\0n%05d" % number, b"v") for number in range(60000)]
+rows = [set_op(b"A1.0_head\0a\0n%05d" % number, b"v") for number in range(60000)]
 if sys.argv[2] == "GOOD":
-    rows += [op_set(b"C1.0_head", b""), op_set(b"O1.0_head\0a\0o", bytes(8))]
-body = b"".join(rows)
-head = b"BREC" + struct.pack("<IQI", len(body), 0, len(rows))
+    rows += [set_op(b"C1.0_head", b""), set_op(b"O1.0_head\0a\0o", bytes(8))]
 with open(sys.argv[1], "r+b") as disk:
     disk.seek(2 * 4096)
-    disk.write(head + struct.pack("<I", crc32c(head + body)) + body)
+    disk.write(record_units(0, rows))
 END
 }
 

@@ -23,6 +23,9 @@ from collections import deque
 from dataclasses import dataclass, field, replace
 from functools import partial
 
+sys.dont_write_bytecode = True  # the module stands beside this file, in the checkout
+from log_record import crc32c
+
 UNIT = 4096
 OBJECT_LIMIT = 134217728
 TRANSACTION_LIMIT = 1048576
@@ -36,13 +39,6 @@ DEPTH = 64
 # ---- the checksum
 
 
-def remainder_of_byte(byte):
-    for _ in range(8):
-        byte = byte >> 1 ^ (0x82F63B78 if byte & 1 else 0)
-    return byte
-
-
-AFTER_BYTE = [remainder_of_byte(byte) for byte in range(256)]
 CHECKSUMS = {}
 
 
@@ -50,10 +46,7 @@ def checksum(data):
     """CRC-32C. What was asked once is kept, since pages of the same byte come again and again."""
     data = bytes(data)
     if data not in CHECKSUMS:
-        rest = 0xFFFFFFFF
-        for byte in data:
-            rest = AFTER_BYTE[(rest ^ byte) & 255] ^ rest >> 8
-        CHECKSUMS[data] = rest ^ 0xFFFFFFFF
+        CHECKSUMS[data] = crc32c(data)
     return CHECKSUMS[data]
 
 

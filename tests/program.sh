@@ -112,39 +112,18 @@ unit() {
     tail -c +$((4096 * $1 + 1)) "$2" | head -c 4096
 }
 
-# Prints the unit of a record that is made by hand. Its words: the record's number, and its operations in hexadecimal digits.
-cat >record.py <<'END'
-import sys
-
-
-def crc32c(data):
-    crc = 0xFFFFFFFF
-    for byte in data:
-        crc ^= byte
-        for _ in range(8):
-            crc = crc >> 1 ^ (0x82F63B78 if crc & 1 else 0)
-    return crc ^ 0xFFFFFFFF
-
-
-ops = [bytes.fromhex(op) for op in sys.argv[2:]]
-body = b"".join(ops)
-head = b"BREC" + len(body).to_bytes(4, "little") + int(sys.argv[1]).to_bytes(8, "little") + len(ops).to_bytes(4, "little")
-record = head + crc32c(head + body).to_bytes(4, "little") + body
-sys.stdout.buffer.write(record + bytes(-len(record) % 4096))
-END
-
 # add_record FILE NUMBER OP..: a record behind so many of one unit each, in half 0 of a store.
 add_record() {
     local file=$1 number=$2
     shift 2
-    python3 record.py "$number" "$@" | dd of="$file" bs=4096 seek=$((2 + number)) conv=notrunc status=none
+    python3 "$top/tests/log_record.py" "$number" "$@" | dd of="$file" bs=4096 seek=$((2 + number)) conv=notrunc status=none
 }
 
 # has_record FILE NUMBER OP..: that record stands there.
 has_record() {
     local file=$1 number=$2
     shift 2
-    python3 record.py "$number" "$@" >wanted_record
+    python3 "$top/tests/log_record.py" "$number" "$@" >wanted_record
     unit $((2 + number)) "$file" | cmp -s - wanted_record
 }
 

@@ -1,5 +1,5 @@
 -- Lanes that are put together by or: they are zero just where each of them is.
-use Rattle.std.proofs.Common.{◌≡◌, ℕ, ◌+◌, List, [], ◌∷◌, length, take, drop, refl, sym, ap, subst, ◌∙◌, arith, take-append-drop, length-drop, length-take-le}
+use Rattle.std.proofs.Common.{◌≡◌, ℕ, ◌+◌, ◌≤◌, List, [], ◌∷◌, length, take, drop, refl, sym, ap, subst, ◌∙◌, arith, take-append-drop, length-drop}
 use Rattle.std.specs.Prelude.{◌↔◌, All, IsTrue, nat_eq, bit_or}
 use Rattle.std.specs.List.{AllByRecursion}
 use Rattle.std.specs.Int.Bits.{or_zero_l}
@@ -39,34 +39,28 @@ together [] ys a b = tt
 together (x ∷ xs) [] a b = tt
 together (x ∷ xs) (y ∷ ys) a b = (ap (λ (n : ℕ). bit_or n y) a.0 ∙ or_zero_l y ∙ b.0, together xs ys a.1 b.1)
 
--- ---- a block
-
--- the bytes from `at` on are the block's second part
-block_clear : (at : ℕ) (block : List ℕ) → at + at ≡ length block
-    → fold_l bit_or 0 (zip2 bit_or (take at block) (take at (drop at block))) ≡ 0 → All (λ b. b ≡ 0) block
-block_clear at block size is =
-    let front : length (take at block) ≡ at = length-take-le at block (omega (arith, size)) in
-    let rest : length (drop at block) ≡ at = length-drop at block ∙ omega (arith, size) in
-    let back : length (take at (drop at block)) ≡ at = length-take-le at (drop at block) (omega (arith, rest)) in
-    let parts = apart (take at block) (take at (drop at block)) (front ∙ sym back) (none_set 0 _ is).1 in
-    let behind : take at (drop at block) ≡ drop at block = take_all at (drop at block) (omega (arith, rest)) in
-    subst (All (λ b. b ≡ 0)) (take-append-drop at block)
-    (All-append (λ b. b ≡ 0) (take at block) (drop at block) (All-from_recursion (λ b. b ≡ 0) (take at block) parts.0)
-    (subst (All (λ b. b ≡ 0)) behind (All-from_recursion (λ b. b ≡ 0) (take at (drop at block)) parts.1)))
-
-clear_block : (at : ℕ) (block : List ℕ) → All (λ b. b ≡ 0) block → fold_l bit_or 0 (zip2 bit_or (take at block) (take at (drop at block))) ≡ 0
-clear_block at block all =
-    let front = recursion_from_All (λ b. b ≡ 0) (take at block) (All-take (λ b. b ≡ 0) at block all) in
-    let back = recursion_from_All (λ b. b ≡ 0) (take at (drop at block)) (All-take (λ b. b ≡ 0) at (drop at block) (All-drop (λ b. b ≡ 0) at block all)) in
-    all_clear _ (together (take at block) (take at (drop at block)) front back)
-
-pub block_test : (at : ℕ) (block : List ℕ) → at + at ≡ length block
-    → IsTrue (nat_eq (fold_l bit_or 0 (zip2 bit_or (take at block) (take at (drop at block)))) 0) ↔ All (λ b. b ≡ 0) block
-block_test at block size =
-    let lanes = fold_l bit_or 0 (zip2 bit_or (take at block) (take at (drop at block))) in (
-      λ yes. block_clear at block size (eqb-true lanes 0 yes),
-      λ all. eq-eqb lanes 0 (clear_block at block all),
+-- the bits of two vectors together are zero just where both vectors are, which are the parts of these bytes
+pub both_test : (lanes other bytes : List ℕ) (at count : ℕ) → length lanes ≡ length other → length bytes ≤ at + count
+    → All (λ b. b ≡ 0) lanes ↔ All (λ b. b ≡ 0) (take at bytes) → All (λ b. b ≡ 0) other ↔ All (λ b. b ≡ 0) (take count (drop at bytes))
+    → All (λ b. b ≡ 0) (zip2 bit_or lanes other) ↔ All (λ b. b ≡ 0) bytes
+both_test lanes other bytes at count same all_there front back =
+    let behind : take count (drop at bytes) ≡ drop at bytes = take_all count (drop at bytes) (omega (arith, length-drop at bytes, all_there)) in (
+      λ yes.
+          let parts = apart lanes other same (recursion_from_All (λ b. b ≡ 0) (zip2 bit_or lanes other) yes) in
+          subst (All (λ b. b ≡ 0)) (take-append-drop at bytes)
+          (All-append (λ b. b ≡ 0) (take at bytes) (drop at bytes) (front.0 (All-from_recursion (λ b. b ≡ 0) lanes parts.0))
+          (subst (All (λ b. b ≡ 0)) behind (back.0 (All-from_recursion (λ b. b ≡ 0) other parts.1)))),
+      λ all. All-from_recursion (λ b. b ≡ 0) (zip2 bit_or lanes other)
+          (together lanes other (recursion_from_All (λ b. b ≡ 0) lanes (front.1 (All-take (λ b. b ≡ 0) at bytes all)))
+          (recursion_from_All (λ b. b ≡ 0) other (back.1 (All-take (λ b. b ≡ 0) count (drop at bytes) (All-drop (λ b. b ≡ 0) at bytes all))))),
     )
+
+-- a vector is zero just where the bits of all its lanes together are
+pub lanes_test : (lanes : List ℕ) → IsTrue (nat_eq (fold_l bit_or 0 lanes) 0) ↔ All (λ b. b ≡ 0) lanes
+lanes_test lanes = (
+  λ yes. All-from_recursion (λ b. b ≡ 0) lanes (none_set 0 lanes (eqb-true (fold_l bit_or 0 lanes) 0 yes)).1,
+  λ all. eq-eqb (fold_l bit_or 0 lanes) 0 (all_clear lanes (recursion_from_All (λ b. b ≡ 0) lanes all)),
+)
 
 -- ---- blocks, one after another
 

@@ -1,20 +1,27 @@
 //! Whether bytes are all zero, looked at many at a time.
-ghost use Rattle.std.specs.Prelude.{◌≡◌, ◌↔◌, All, IsTrue, take, drop, bit_or};
-ghost use Rattle.std.specs.Simd.Lanes.{zip2, fold_l};
+ghost use Rattle.std.specs.Prelude.{◌≡◌, ◌↔◌, All, IsTrue, length};
 
 use std::simd::prelude::*;
 
 // The bytes that are looked at in one step.
-const BLOCK: usize = 128;
+const BLOCK: usize = 512;
 
-// The bits that are 1 in a byte of one step or in more.
+// The bits that are 1 in one byte or another of 128, each 64th together.
 #[inline(always)]
-fn bits_of(block: &[u8; BLOCK]) -> u8
-    ensures { result ≡ fold_l bit_or 0 (zip2 bit_or (take 64 block.now) (take 64 (drop 64 block.now))) }
+fn lanes_of(part: &[u8]) -> u8x64
+    requires { length part.now ≡ 128 }
+    ensures { All (λ b. b ≡ 0) result ↔ All (λ b. b ≡ 0) part.now }
 {
-    let front = u8x64::from_slice(block);
-    let back = u8x64::from_slice(&block[64..]);
-    (front | back).reduce_or()
+    u8x64::from_slice(part) | u8x64::from_slice(&part[64..])
+}
+
+// The same of 256.
+#[inline(always)]
+fn lanes_of_both(part: &[u8]) -> u8x64
+    requires { length part.now ≡ 256 }
+    ensures { All (λ b. b ≡ 0) result ↔ All (λ b. b ≡ 0) part.now }
+{
+    lanes_of(&part[..128]) | lanes_of(&part[128..])
 }
 
 // Whether the bytes of one step are all zero.
@@ -22,7 +29,8 @@ fn bits_of(block: &[u8; BLOCK]) -> u8
 fn is_zero_block(block: &[u8; BLOCK]) -> bool
     ensures { IsTrue result ↔ All (λ b. b ≡ 0) block.now }
 {
-    bits_of(block) == 0
+    let lanes = lanes_of_both(&block[..256]) | lanes_of_both(&block[256..]);
+    lanes.reduce_or() == 0
 }
 
 // Whether each of the bytes is zero, step by step, and those behind the last whole step one by one.

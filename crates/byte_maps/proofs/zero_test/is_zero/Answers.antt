@@ -13,16 +13,16 @@ covered m n bytes le back front =
     let rest = subst AreZero (drop-drop (n - m) m bytes ∙ ap (λ i. drop i bytes) at) (All-drop (λ (b : ℕ). b ≡ 0) (n - m) (drop m bytes) back) in
     subst AreZero (take-append-drop n bytes) (All-append (λ (b : ℕ). b ≡ 0) (take n bytes) (drop n bytes) front rest)
 
-whole_steps : (size : ℕ) → 128 ≤ size → size - 128 ≤ size / 128 * 128
+whole_steps : (size : ℕ) → 512 ≤ size → size - 512 ≤ size / 512 * 512
 whole_steps size some = omega (arith, some)
 
 pub returns-then-is_zero_in_steps : goal.returns-then-is_zero_in_steps
 returns-then-is_zero_in_steps c =
     let bytes = c.args.bytes.now in
     let size = length bytes in
-    let all = drop (size - 128) bytes in
-    let long : length all ≤ size - (size - 128) = omega (arith, length-drop (size - 128) bytes) in
-    let back : AreZero all = subst AreZero (take_all (size - (size - 128)) all long) (c.is_zero_in_steps-2.ensures.0 c.if-is_zero_in_steps.true) in (
-      λ yes. covered (size - 128) (size / 128 * 128) bytes (whole_steps size c.if-size-lt-BLOCK.false) back (c.is_zero_in_steps-then-is_zero_in_steps.ensures.0 yes),
-      λ zero. c.is_zero_in_steps-then-is_zero_in_steps.ensures.1 (All-take (λ (b : ℕ). b ≡ 0) (size / 128 * 128) bytes zero),
+    let all = drop (size - 512) bytes in
+    let long : length all ≤ size - (size - 512) = omega (arith, length-drop (size - 512) bytes) in
+    let back : AreZero all = subst AreZero (take_all (size - (size - 512)) all long) (c.is_zero_in_steps-2.ensures.0 c.if-is_zero_in_steps.true) in (
+      λ yes. covered (size - 512) (size / 512 * 512) bytes (whole_steps size c.if-size-lt-BLOCK.false) back (c.is_zero_in_steps-then-is_zero_in_steps.ensures.0 yes),
+      λ zero. c.is_zero_in_steps-then-is_zero_in_steps.ensures.1 (All-take (λ (b : ℕ). b ≡ 0) (size / 512 * 512) bytes zero),
     )

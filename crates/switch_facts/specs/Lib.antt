@@ -1,0 +1,4 @@
+pub mod OtherPart
+pub mod OtherGoes
+pub mod OtherKnown
+pub mod Prelude

@@ -5,15 +5,17 @@ use Rattle.byte_maps.specs.Units.{units_from}
 use Rattle.meta_log.proofs.PieceLemmas.{given_from-none}
 use Rattle.log_facts.specs.Prelude.{not_sent}
 use Rattle.store_steps.specs.declared.step.Step.TheVariants as step
-use Rattle.store_steps.specs.Prelude.{Batch, State, batch_ops, finished, taken_up, flush_sent, sync_sent, commit_of, acknowledged, is_ready, DoesTake, DoesFlush, DoesSeal, DoesRecord, DoesSync, DoesFinish, piece_unit, piece_bytes, uncommitted, given_fresh, begun_ops, submitted_from, second_flush, Intent, intent_of, intents, is_in, data_part, half_part, book_part, Adds, nothing, flushes, on_half, Footprint}
+use Rattle.store_steps.specs.Prelude.{Batch, State, batch_ops, finished, taken_up, flush_sent, sync_sent, commit_of, acknowledged, is_ready, DoesTake, DoesFlush, DoesSeal, DoesRecord, DoesSync, DoesFinish, piece_unit, piece_bytes, uncommitted, given_fresh, begun_ops, submitted_from, second_flush, Intent, intent_of, intents, is_in, data_part, half_part, book_part, Adds, nothing, flushes, on_half, Touch, IsPlaced, Footprint}
 use Rattle.store_steps.specs.RowsGo as rows
 use Rattle.store_steps.specs.DataGoes as units
 use Rattle.store_steps.specs.HalfGoes as half
 use Rattle.store_steps.specs.BookGoes as book
+use Rattle.switch_facts.specs.OtherGoes as other
 use Rattle.flight_facts.proofs.Prelude.{seal_none, ready_not_down, ready_by_table, acknowledged_length, unsealed_second, record_second, sync_begun, IsFirst, chosen_first, without_in}
 use Rattle.run_facts.specs.Prelude.{IsKept}
 use Rattle.run_facts.proofs.Conditions.{HasRecord, ReadyRecord, number_low, take_none}
 use Rattle.run_facts.proofs.Known.{flush_covers, sync_covers, known_seal, known_record, piece_lies, piece_size}
+use Rattle.run_facts.proofs.OtherHalf.{placed_elsewhere}
 use Rattle.run_facts.proofs.PartsKept.{book_alone, device_alone, intents_both, given_both}
 use Rattle.space_facts.proofs.Prelude.{first_taken}
 use Rattle.selections.specs.Fair.{IsComplete}
@@ -68,6 +70,7 @@ take_footprint s d s' d' kept ready does =
       units = units.opens (given_fresh at.front) (take x.given x.fresh) (given_fresh at.back) (x.fresh ++ []) (given_before_it s x none at places)
           (ap (λ (fs : List FreshUnit). record (data_part s) { given = fs; fresh = x.fresh ++ []; first = not_sent }) (given_behind_it s x none at places));
       half = half.same tt (ap (λ f. record (half_part s) { second = f }) (ap second_flush (sym none)));
+      other = other.same tt refl;
       book = book.commits (intent_of x ∷ []) (ap (λ (o : Option Batch). intents (option_map_or (λ (b : Batch). b.contexts) o [])) none)
           (ap (λ (n : ℕ). record (book_part s) {
             book = record s.book { commits = s.book.commits ++ commit_of x ∷ [] };
@@ -86,7 +89,7 @@ flush_footprint s d s' d' kept ready does =
     subst (λ (t : State). Footprint s d t d') (sym does.after)
     (subst (λ (o : Option Batch). (let t : State = record s { batch = o } in Footprint t d (flush_sent b does.ticket t) d')) (sym does.begun)
     (device_alone (record s { batch = Some b }) d _ d' (flushes does.ticket.place) does.submitted tt refl refl
-    (units.flushes_batch does.ticket.place (flush_covers s d b kept ready does.begun) refl) (half.same tt refl) refl))
+    (units.flushes_batch does.ticket.place (flush_covers s d b kept ready does.begun) refl) (half.same tt refl) refl refl))
 
 pub sync_footprint : (s : State) (d : Disk) (s' : State) (d' : Disk) → IsKept s d → is_ready step.Sync d.depth s ≡ true → DoesSync s d s' d'
     → Footprint s d s' d'
@@ -98,7 +101,7 @@ sync_footprint s d s' d' kept ready does =
     subst (λ (t : State). Footprint s d t d') (sym does.after)
     (subst (λ (o : Option Batch). (let t : State = record s { batch = o } in Footprint t d (sync_sent b does.ticket t) d')) (sym does.begun)
     (device_alone (record s { batch = Some b }) d _ d' (flushes does.ticket.place) does.submitted tt refl refl (units.same tt refl)
-    (half.syncs does.ticket.place is.1.0.ops (ap begun_ops is.1.1) second (λ j low high. sync_covers s d is.1.0 j kept ready is.1.1 high) refl) refl))
+    (half.syncs does.ticket.place is.1.0.ops (ap begun_ops is.1.1) second (λ j low high. sync_covers s d is.1.0 j kept ready is.1.1 high) refl) refl refl))
 
 -- ---- the record
 
@@ -113,7 +116,7 @@ seal_footprint s d s' d' kept ready does =
     subst (λ (t : State). Footprint s d t d') (sym does.after) (device_alone s d _ d' nothing (rests d d' does.same) tt (omega arith) refl (units.same tt refl)
     (half.begins ops (ap begun_ops none) (record { number_below = number_low s d kept.always; body_below = r.body; fit = r.fit }) r.room
     (ap (λ (n : ℕ). record (half_part s) { begun = Some ops; from = n }) (given_from-none (unit_count s.log.number ops))
-    ∙ ap (λ f. record (half_part s) { begun = Some ops; from = unit_count s.log.number ops; second = f }) second)) refl)
+    ∙ ap (λ f. record (half_part s) { begun = Some ops; from = unit_count s.log.number ops; second = f }) second)) refl refl)
 
 -- where the next piece lies
 module _ (s : State) (d : Disk) (r : Begun) (lying : LiesInRecord (unit_count s.log.number r.ops) r.given) where
@@ -156,10 +159,12 @@ record_footprint s d s' d' kept ready does =
     let up : s.down ≡ None = ready_not_down s d.depth step.Record refl ready in
     let known : ReadyRecord s r = known_record s d r kept ready does.begun in
     let lying : LiesInRecord (unit_count s.log.number r.ops) r.given = piece_lies s d r kept ready does.begun in
+    let piece : Touch = on_half does.ticket.place (piece_unit s.log r) (piece_bytes s.log.number r) in
+    let placed : IsPlaced s.log.sup piece = (omega (arith, piece_place s d r lying), piece_in_half s d r lying known.room (piece_size s d r kept ready does.begun)) in
     subst (λ (t : State). Footprint s d t d') (sym does.after) (record {
-      touch = on_half does.ticket.place (piece_unit s.log r) (piece_bytes s.log.number r);
+      touch = piece;
       device = does.submitted;
-      placed = (omega (arith, piece_place s d r lying), piece_in_half s d r lying known.room (piece_size s d r kept ready does.begun));
+      placed = placed;
       counted = refl;
       rows = rows.same refl;
       units = units.same tt refl;
@@ -174,6 +179,7 @@ record_footprint s d s' d' kept ready does =
             ∙ ap (λ (n : ℕ). units_from (from s d r lying) (n - from s d r lying) (record_units s.log.number r.ops)) (sym (ap (submitted_from s.log.number) does.begun));
         then = ap (λ o. record (half_part s) { begun = o; from = from s d r lying }) (sym (ap begun_ops does.begun));
       });
+      other = other.same (placed_elsewhere s.log.sup piece placed) refl;
       book = book.same refl;
       caused = tt;
     })
@@ -183,7 +189,7 @@ record_footprint s d s' d' kept ready does =
 pub finish_footprint : (s : State) (d : Disk) (s' : State) (d' : Disk) → is_ready step.Finish d.depth s ≡ true → DoesFinish s d s' d'
     → Footprint s d s' d'
 finish_footprint s d s' d' ready does = subst (λ (t : State). Footprint s d t d') (sym does.after)
-    (book_alone s d (finished s) d' (rests d d' does.same) refl refl refl refl
+    (book_alone s d (finished s) d' (rests d d' does.same) refl refl refl refl refl
     (book.acknowledges (ap (λ (n : ℕ). record (book_part s) {
       book = record s.book { commits = acknowledged s.events s.book.commits };
       acked = s.acked + 1;

@@ -4,11 +4,12 @@ use Rattle.run_facts.proofs.Common.{AllByRecursion, Disk, RowOp, rows_after, giv
 use Rattle.std.proofs.lemmas.List.{take_all}
 use Rattle.meta_log.proofs.PieceLemmas.{given_from-all}
 use Rattle.store_steps.specs.declared.step.Step.TheVariants as step
-use Rattle.store_steps.specs.Prelude.{Batch, State, batch_ops, batch_released, sum_needs, committed_batch, is_ready, DoesCommit, all_fresh, given_fresh, begun_ops, submitted_from, Intent, intents, ops_by, released_by, needs_by, RowsPart, rows_part, nothing, Footprint}
+use Rattle.store_steps.specs.Prelude.{Batch, State, batch_ops, batch_released, sum_needs, log_after, committed_batch, is_ready, DoesCommit, all_fresh, given_fresh, begun_ops, submitted_from, Intent, intents, ops_by, released_by, needs_by, RowsPart, rows_part, nothing, Footprint}
 use Rattle.store_steps.specs.RowsGo as rows
 use Rattle.store_steps.specs.DataGoes as units
 use Rattle.store_steps.specs.HalfGoes as half
 use Rattle.store_steps.specs.BookGoes as book
+use Rattle.switch_facts.specs.OtherGoes as other
 use Rattle.flight_facts.specs.Prelude.{IsAllGiven}
 use Rattle.flight_facts.proofs.Prelude.{ready_not_down, ready_by_table, IsSynced, ready_synced}
 use Rattle.run_facts.specs.Prelude.{IsKept}
@@ -80,6 +81,7 @@ commit_footprint s d s' d' kept ready does =
           (ap (unit_count s.log.number) (flat_intents (λ x. x.ops) b.contexts)) (needs_are b.contexts)) (rows_then s b s.log.number);
       units = units.retires (given_fresh s.pending) is.first (given_all b.contexts s.pending is.written) refl;
       half = half.moves_on (batch_ops b) begun from is.second refl;
+      other = other.commits (log_after b s.log).rows (log_after b s.log).tail (log_after b s.log).number refl refl;
       book = book.applies (length s.book.commits - 0) (omega arith) refl;
       caused = record {
         ready = subst (λ (o : Option Batch). is_ready step.Commit d.depth (record s { batch = o }) ≡ true) does.begun ready;

@@ -3,17 +3,19 @@ use Rattle.std.proofs.Common.{◌≡◌, ℕ, ◌+◌, ◌*◌, ◌<◌, List, [
 use Rattle.run_facts.proofs.Common.{AllByRecursion, option_map_or, Disk, IsDataUnit, FreshUnit, Context}
 use Rattle.block_device.specs.Prelude.{WritesUnit}
 use Rattle.store_steps.specs.declared.step.Step.TheVariants as step
-use Rattle.store_steps.specs.Prelude.{Batch, State, Unsent, unsent_units, run_bytes, given_more, with_context, is_ready, DoesData, uncommitted, all_fresh, given_fresh, Intent, rows_part, data_part, on_data, run_write, IsInRow, Spares, Gives, Footprint}
+use Rattle.store_steps.specs.Prelude.{Batch, State, Unsent, unsent_units, run_bytes, given_more, with_context, is_ready, DoesData, uncommitted, all_fresh, given_fresh, Intent, rows_part, data_part, on_data, run_write, IsPlaced, IsInRow, Spares, Gives, Footprint}
 use Rattle.store_steps.specs.RowsGo as rows
 use Rattle.store_steps.specs.DataGoes as units
 use Rattle.store_steps.specs.HalfGoes as half
 use Rattle.store_steps.specs.BookGoes as book
+use Rattle.switch_facts.specs.OtherGoes as other
 use Rattle.flight_facts.proofs.Prelude.{intents_kept, all_then, all_join, IsRunOf, given_units, row_at, row_bytes, run_has, run_inside, given_before, earlier_spared, ready_not_down, with_in}
 use Rattle.run_facts.specs.Prelude.{IsKept}
 use Rattle.run_facts.proofs.Conditions.{ReadyData}
 use Rattle.run_facts.proofs.RowsFacts.{units_of, taken_by, next_on_data}
 use Rattle.run_facts.proofs.Apart.{fresh_taken, given_taken, taken_fresh, AreOthers, others_apart}
 use Rattle.run_facts.proofs.Known.{known_data}
+use Rattle.run_facts.proofs.OtherHalf.{placed_elsewhere}
 use Rattle.run_facts.proofs.PartsKept.{given_both}
 
 -- what is given of contexts of which one is in the middle
@@ -134,15 +136,17 @@ data_footprint s d s' d' kept ready does =
     let up : s.down ≡ None = ready_not_down s d.depth step.Data refl ready in
     let r : ReadyData s n = known_data s d n kept ready does.is_next in
     let are : AllByRecursion (λ (f : FreshUnit). IsDataUnit s.log.sup f.unit) (unsent_units n) = next_on_data s d kept up n does.is_next in
+    let placed : IsPlaced s.log.sup (on_data does.ticket.place n) = (are, run_inside (r.at).item n (r.at).holds s.log.sup r.fits are) in
     subst (λ (t : State). Footprint s d t d') (sym does.after) (record {
       touch = on_data does.ticket.place n;
       device = does.submitted;
-      placed = (are, run_inside (r.at).item n (r.at).holds s.log.sup r.fits are);
+      placed = placed;
       counted = refl;
       rows = rows.same (ap (λ (is : List Intent). record (rows_part s) { intents = is })
           (intents_kept n.place (given_more (length (unsent_units n))) (λ x. refl) (option_map_or (λ (b : Batch). b.contexts) s.batch []) s.pending));
       units = units.gives does.ticket.place n (gives s d kept up n r);
       half = half.same tt refl;
+      other = other.same (placed_elsewhere s.log.sup (on_data does.ticket.place n) placed) refl;
       book = book.same refl;
       caused = tt;
     })

@@ -9,6 +9,7 @@ use Rattle.store_steps.specs.RowsGo as rows
 use Rattle.store_steps.specs.DataGoes as units
 use Rattle.store_steps.specs.HalfGoes as half
 use Rattle.store_steps.specs.BookGoes as book
+use Rattle.switch_facts.specs.OtherGoes as other
 use Rattle.flight_facts.proofs.Prelude.{was_up, down_not_up}
 use Rattle.run_facts.specs.Prelude.{IsKept}
 use Rattle.run_facts.proofs.PartsKept.{book_alone}
@@ -44,6 +45,7 @@ accept_footprint client line change s d s' d' same known does =
           (intents_push front s.pending x));
       units = units.same tt (ap (λ (fs : List FreshUnit). record (data_part s) { given = fs }) (given_push front s.pending x refl));
       half = half.same tt refl;
+      other = other.same tt refl;
       book = book.enters (record { client = client; line = line; command = ask.Change change; answer = answer.Accepted; acks = s.acked }) refl;
       caused = record {
         client = client;
@@ -59,13 +61,13 @@ accept_footprint client line change s d s' d' same known does =
 enter_footprint : (client line : ℕ) (command : Command) (a : Answer) (s : State) (d : Disk) (s' : State) (d' : Disk) → d' ≡ d
     → s' ≡ entered client line command a s → Replies s d s' → Footprint s d s' d'
 enter_footprint client line command a s d s' d' same is replies = subst (λ (t : State). Footprint s d t d') (sym is)
-    (book_alone s d (entered client line command a s) d' (rests d d' same) refl refl refl refl
+    (book_alone s d (entered client line command a s) d' (rests d d' same) refl refl refl refl refl
     (book.enters (record { client = client; line = line; command = command; answer = a; acks = s.acked }) refl)
     (subst (λ (t : State). Replies s d t) is replies))
 
 stay_footprint : (s : State) (d : Disk) (s' : State) (d' : Disk) → d' ≡ d → TurnsAway s s' → Footprint s d s' d'
 stay_footprint s d s' d' same turned =
-    subst (λ (t : State). Footprint s d t d') (sym turned.same) (book_alone s d s d' (rests d d' same) refl refl refl refl (book.same refl) tt)
+    subst (λ (t : State). Footprint s d t d') (sym turned.same) (book_alone s d s d' (rests d d' same) refl refl refl refl refl (book.same refl) tt)
 
 -- ---- each call
 

@@ -3,6 +3,7 @@ pub mod Numbers
 pub mod Conditions
 pub mod SpaceUnits
 pub mod Holds
+pub mod OtherHalf
 pub mod PartsKept
 pub mod RowsFacts
 pub mod Apart

@@ -1,11 +1,13 @@
 -- What a change of one context leaves of the parts.
 use Rattle.std.proofs.Common.{◌≡◌, ℕ, ◌+◌, Bool, true, false, cond, List, [], ◌∷◌, ◌++◌, ◌==◌, take, refl, ap, ◌∙◌, arith, sym, append_assoc}
 use Rattle.run_facts.proofs.Common.{flat_map, Disk, Context, FreshUnit}
-use Rattle.store_steps.specs.Prelude.{State, with_context, given_fresh, Intent, intent_of, intents, rows_part, data_part, half_part, book_part, Adds, nothing, BookGoes, IsCaused, Footprint, Touch, IsPlaced, events_of, DataGoes, HalfGoes}
+use Rattle.store_steps.specs.Prelude.{State, with_context, given_fresh, Intent, intent_of, intents, rows_part, data_part, half_part, other_part, book_part, Adds, nothing, BookGoes, IsCaused, Footprint, Touch, IsPlaced, events_of, DataGoes, HalfGoes}
 use Rattle.store_steps.specs.RowsGo as rows
 use Rattle.store_steps.specs.DataGoes as units
 use Rattle.store_steps.specs.HalfGoes as half
 use Rattle.store_steps.specs.BookGoes as book
+use Rattle.switch_facts.specs.OtherGoes as other
+use Rattle.run_facts.proofs.OtherHalf.{placed_elsewhere}
 
 -- what has ended of a context doesn't change what was given
 pub given_kept : (place : ℕ) (change : Context → Context) → ((x : Context) → take (change x).given (change x).fresh ≡ take x.given x.fresh)
@@ -39,8 +41,8 @@ given_both (x ∷ xs) ys = ap (λ (fs : List FreshUnit). take x.given x.fresh ++
 -- a call that changes neither rows nor book
 pub device_alone : (s : State) (d : Disk) (s' : State) (d' : Disk) (t : Touch) → Adds t d d' → IsPlaced s.log.sup t → s'.events ≡ s.events + events_of t
     → rows_part s' ≡ rows_part s → DataGoes d.flights t (data_part s) (data_part s') → HalfGoes d.flights t (half_part s) (half_part s')
-    → book_part s' ≡ book_part s → Footprint s d s' d'
-device_alone s d s' d' t adds placed counted same_rows units half same_book = record {
+    → other_part s' ≡ other_part s → book_part s' ≡ book_part s → Footprint s d s' d'
+device_alone s d s' d' t adds placed counted same_rows units half same_other same_book = record {
   touch = t;
   device = adds;
   placed = placed;
@@ -48,15 +50,16 @@ device_alone s d s' d' t adds placed counted same_rows units half same_book = re
   rows = rows.same same_rows;
   units = units;
   half = half;
+  other = other.same (placed_elsewhere s.log.sup t placed) same_other;
   book = book.same same_book;
   caused = tt;
 }
 
 -- a call that the device has no part in, and that changes nothing but the book
 pub book_alone : (s : State) (d : Disk) (s' : State) (d' : Disk) → Adds nothing d d' → s'.events ≡ s.events
-    → (same_rows : rows_part s' ≡ rows_part s) → data_part s' ≡ data_part s → half_part s' ≡ half_part s
+    → (same_rows : rows_part s' ≡ rows_part s) → data_part s' ≡ data_part s → half_part s' ≡ half_part s → other_part s' ≡ other_part s
     → (goes : BookGoes s.events nothing (book_part s) (book_part s')) → IsCaused s d s' d' (rows.same same_rows) goes → Footprint s d s' d'
-book_alone s d s' d' adds events same_rows same_units same_half goes caused = record {
+book_alone s d s' d' adds events same_rows same_units same_half same_other goes caused = record {
   touch = nothing;
   device = adds;
   placed = tt;
@@ -64,6 +67,7 @@ book_alone s d s' d' adds events same_rows same_units same_half goes caused = re
   rows = rows.same same_rows;
   units = units.same tt same_units;
   half = half.same tt same_half;
+  other = other.same tt same_other;
   book = goes;
   caused = caused;
 }

@@ -23,18 +23,18 @@ of_job s d d' ticket left (job.Data place count) ended is = device_alone s d _ d
     (ap (λ (is : List Intent). record (rows_part s) { intents = is })
     (intents_kept place (done_more count) (λ x. refl) (option_map_or (λ (b : Batch). b.contexts) s.batch []) s.pending))
     (units.same tt (ap (λ (fs : List FreshUnit). record (data_part s) { given = fs })
-    (given_kept place (done_more count) (λ x. refl) (option_map_or (λ (b : Batch). b.contexts) s.batch []) s.pending))) (half.same tt refl) refl
+    (given_kept place (done_more count) (λ x. refl) (option_map_or (λ (b : Batch). b.contexts) s.batch []) s.pending))) (half.same tt refl) refl refl
 of_job s d d' ticket left job.DataFlush ended (b, is, first) =
     subst (λ (o : Option Batch). Footprint (record s { batch = o }) d
     (record s { batch = option_map first_flushed o; flying = left; events = s.events + 1 }) d') (sym is)
-    (device_alone (record s { batch = Some b }) d _ d' (ends ticket) ended tt refl refl (units.is_flushed ticket first refl) (half.same tt refl) refl)
+    (device_alone (record s { batch = Some b }) d _ d' (ends ticket) ended tt refl refl (units.is_flushed ticket first refl) (half.same tt refl) refl refl)
 of_job s d d' ticket left job.Record ended is =
-    device_alone s d _ d' (ends ticket) ended tt refl refl (units.same tt refl) (half.same tt (half_kept s s.log.begun)) refl
+    device_alone s d _ d' (ends ticket) ended tt refl refl (units.same tt refl) (half.same tt (half_kept s s.log.begun)) refl refl
 of_job s d d' ticket left job.RecordFlush ended (b, is, second, (r, begun)) =
     subst (λ (o : Option Batch). Footprint (record s { batch = o }) d
     (record s { batch = option_map second_flushed o; flying = left; events = s.events + 1 }) d') (sym is)
     (device_alone (record s { batch = Some b }) d _ d' (ends ticket) ended tt refl refl (units.same tt refl)
-    (half.is_synced ticket r.ops (ap begun_ops begun) second refl) refl)
+    (half.is_synced ticket r.ops (ap begun_ops begun) second refl) refl refl)
 
 -- none was ready
 waited_same : (d d' : Disk) → Waited d d' → (d'.history ≡ d.history) × (d'.flights ≡ d.flights)
@@ -49,4 +49,4 @@ reap_footprint s d s' d' kept up (inl ended) =
     (of_job s d d' ended.ticket.place (others_of ended.ticket s.flying) out.flight.job ended.ended
     (found_tells s d.flights ended.ticket out (kept.up up).flights))
 reap_footprint s d s' d' kept up (inr (waited, is)) = subst (λ (t : State). Footprint s d t d') (sym is)
-    (book_alone s d s d' (waited_same d d' waited) refl refl refl refl (book.same refl) tt)
+    (book_alone s d s d' (waited_same d d' waited) refl refl refl refl refl (book.same refl) tt)

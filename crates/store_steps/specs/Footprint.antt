@@ -4,6 +4,7 @@ use Rattle.block_device.specs.Prelude.{Disk}
 use Rattle.object_model.specs.Prelude.{Change}
 use Rattle.object_model.specs.declared.command.Answer.{Answer}
 use Rattle.object_model.specs.declared.command.Command.{Command}
+use Rattle.switch_facts.specs.Prelude.{OtherGoes}
 use Rattle.store_steps.specs.declared.step.Step.{Step}
 use Rattle.store_steps.specs.declared.step.Step.TheVariants.{Take, Commit, Finish}
 use Rattle.store_steps.specs.State.{State}
@@ -12,8 +13,8 @@ use Rattle.store_steps.specs.Steps.{DoesTake, DoesCommit, DoesFinish}
 use Rattle.plan_drafts.specs.Prelude.{IsKnown}
 use Rattle.store_steps.specs.Submit.{Accepts, Refuses}
 use Rattle.store_steps.specs.Runs.{AnswersRead}
-use Rattle.store_steps.specs.Parts.{RowsPart, BookPart, rows_part, data_part, half_part, book_part}
-use Rattle.store_steps.specs.Touch.{Touch, Adds, IsPlaced, events_of}
+use Rattle.store_steps.specs.Parts.{RowsPart, BookPart, rows_part, data_part, half_part, other_part, book_part}
+use Rattle.store_steps.specs.Touch.{Touch, Adds, IsPlaced, event_of, ticket_of, events_of}
 use Rattle.store_steps.specs.RowsGo.{RowsGo}
 use Rattle.store_steps.specs.RowsGo as rows
 use Rattle.store_steps.specs.DataGoes.{DataGoes}
@@ -64,5 +65,6 @@ pub record Footprint (s : State) (d : Disk) (s' : State) (d' : Disk) : Type 0 wh
   pub rows : RowsGo (rows_part s) (rows_part s')
   pub units : DataGoes d.flights touch (data_part s) (data_part s')
   pub half : HalfGoes d.flights touch (half_part s) (half_part s')
+  pub other : OtherGoes d.flights (ticket_of touch) (event_of touch) (other_part s) (other_part s')
   pub book : BookGoes s.events touch (book_part s) (book_part s')
   pub caused : IsCaused s d s' d' rows book

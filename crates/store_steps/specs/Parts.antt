@@ -1,11 +1,13 @@
 -- The parts of the kernel's state: each fact takes the part that it reads, and none takes the state.
-use Rattle.std.specs.Prelude.{ℕ, List, [], Option}
+use Rattle.std.specs.Prelude.{ℕ, List, [], Option, None}
 use Rattle.std.specs.Option.{option_map_or}
 use Rattle.object_model.specs.declared.book.Book.{Book}
 use Rattle.meta_rows.specs.declared.row_op.RowOp.{RowOp}
 use Rattle.meta_rows.specs.Prelude.{Rows}
 use Rattle.meta_log.specs.declared.slot.Super.{Super}
+use Rattle.meta_log.specs.Prelude.{in_runs}
 use Rattle.log_facts.specs.Prelude.{FlushState, not_sent}
+use Rattle.switch_facts.specs.Prelude.{OtherPart}
 use Rattle.plan_rows.specs.declared.plan.FreshUnit.{FreshUnit}
 use Rattle.unit_allocator.specs.Prelude.{Space}
 use Rattle.store_steps.specs.State.{State}
@@ -69,6 +71,17 @@ half_part s = record {
   begun = begun_ops s.log.begun;
   from = submitted_from s.log.number s.log.begun;
   second = second_flush s.batch;
+}
+
+-- the slots and the half that isn't in use, where no checkpoint is written
+abbrev pub other_part : State → OtherPart
+other_part s = record {
+  sup = s.log.sup;
+  rows = s.log.rows;
+  tail = s.log.tail;
+  number = s.log.number;
+  is_stale = in_runs s.log.stale;
+  check = None;
 }
 
 -- the book, how many commits are acknowledged, how many are applied to the committed rows, and the intents of the open batch

@@ -9,8 +9,8 @@ pub use Rattle.store_steps.specs.Intents.{Intent, intent_of, intents, names_in, 
 unfoldable pub use Rattle.store_steps.specs.Intents.{holds_in}
 pub use Rattle.store_steps.specs.Opened.{Found, opened}
 pub use Rattle.store_steps.specs.UnderWay.{uncommitted, all_fresh, bytes_in, memory_of, given_fresh, flush_of, second_flush, begun_ops, submitted_from}
-pub use Rattle.store_steps.specs.Parts.{RowsPart, rows_part, DataPart, data_part, HalfPart, half_part, BookPart, book_part}
-pub use Rattle.store_steps.specs.Touch.{Touch, nothing, ends, flushes, on_data, on_half, run_write, Adds, events_of, after, IsPlaced, IsNoData, IsNoPiece}
+pub use Rattle.store_steps.specs.Parts.{RowsPart, rows_part, DataPart, data_part, HalfPart, half_part, other_part, BookPart, book_part}
+pub use Rattle.store_steps.specs.Touch.{Touch, nothing, ends, flushes, on_data, on_half, run_write, Adds, event_of, ticket_of, events_of, after, IsPlaced, IsNoData, IsNoPiece}
 pub use Rattle.store_steps.specs.RowsGo.{joined, applied, RowsGo, joins, reorders}
 pub use Rattle.store_steps.specs.RowsWithin.{body_units, rows_units, NeedsEnough, AreRowsWithin}
 pub use Rattle.store_steps.specs.DataGoes.{IsInRow, Spares, Gives, DataGoes, gives, opens, flushes_batch, retires}

@@ -1,12 +1,13 @@
 -- What a call adds to the device's log, by where it writes.
-use Rattle.std.specs.Prelude.{◌≡◌, ℕ, ◌+◌, ◌*◌, ◌≤◌, true, List, length}
+use Rattle.std.specs.Prelude.{◌≡◌, ℕ, ◌+◌, ◌*◌, ◌≤◌, true, List, length, Option, Some, None}
 use Rattle.std.specs.List.{AllByRecursion}
-use Rattle.block_device.specs.Prelude.{Disk, History, Submitted, Reaped, with_event}
+use Rattle.block_device.specs.Prelude.{Disk, History, Submitted, Reaped}
 use Rattle.block_device.specs.declared.event.Event.{Event}
 use Rattle.block_device.specs.declared.event.Event.TheVariants.{Write, Flush, Done}
 use Rattle.meta_log.specs.declared.slot.Super.{Super}
 use Rattle.meta_log.specs.Prelude.{active_unit}
 use Rattle.store_image.specs.Prelude.{IsDataUnit}
+use Rattle.switch_facts.specs.Prelude.{with_any}
 use Rattle.store_steps.specs.Contexts.{Unsent, unsent_units, run_bytes}
 
 -- the end of a submission, a flush, a write of fresh units, a write in the active half of the log, each by its ticket
@@ -29,17 +30,28 @@ Adds (flushes ticket) d d' = Submitted d ticket Flush d'
 Adds (on_data ticket run) d d' = Submitted d ticket (run_write run) d'
 Adds (on_half ticket unit bytes) d d' = Submitted d ticket (Write unit bytes) d'
 
+-- the event that it is, if it is one, and its ticket
+abbrev pub event_of : Touch → Option Event
+event_of nothing = None
+event_of (ends ticket) = Some (Done ticket true)
+event_of (flushes ticket) = Some Flush
+event_of (on_data ticket run) = Some (run_write run)
+event_of (on_half ticket unit bytes) = Some (Write unit bytes)
+
+abbrev pub ticket_of : Touch → ℕ
+ticket_of nothing = 0
+ticket_of (ends ticket) = ticket
+ticket_of (flushes ticket) = ticket
+ticket_of (on_data ticket run) = ticket
+ticket_of (on_half ticket unit bytes) = ticket
+
 -- how many events that is, and the history behind it
 abbrev pub events_of : Touch → ℕ
 events_of nothing = 0
 events_of t = 1
 
 abbrev pub after : Touch → History → History
-after nothing h = h
-after (ends ticket) h = with_event h (Done ticket true)
-after (flushes ticket) h = with_event h Flush
-after (on_data ticket run) h = with_event h (run_write run)
-after (on_half ticket unit bytes) h = with_event h (Write unit bytes)
+after t h = with_any (event_of t) h
 
 -- where it writes: data units of the device, or the active half
 abbrev pub IsPlaced : Super → Touch → Type 0

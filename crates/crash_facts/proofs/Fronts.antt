@@ -24,9 +24,8 @@ use Rattle.store_steps.specs.Prelude.{State, Intent, intents, is_in, rows_by, Ea
 use Rattle.run_facts.specs.Prelude.{IsAllGiven, IsKept, AreRowsKept}
 use Rattle.run_facts.proofs.Prelude.{all_left, units_of, taken_by, flat_intents, intents_both, taken_fresh, given_taken, parts_apart, given_all}
 use Rattle.book_facts.specs.Prelude.{IsFairSelection, changes_of, SelectionsStand}
-use Rattle.unit_facts.specs.DataUnits.{HeldBytesAreLast, UnitsAreFlushed, OtherUnitsAreClean}
+use Rattle.unit_facts.specs.DataUnits.{HeldBytesAreLast, UnitsAreFlushed, DataUnitsAreClean}
 use Rattle.unit_facts.proofs.DataKnown.{retired}
-use Rattle.unit_facts.proofs.Units.{data_elsewhere}
 use Rattle.crash_facts.specs.HeldBytes.{bytes_with, held_or_last}
 use Rattle.crash_facts.proofs.Bytes.{fresh_are, not_fresh, front_held}
 
@@ -101,7 +100,7 @@ module _ (s : State) (d : Disk) (kept : IsKept s d) (up : s.down ≡ None) (fron
           (replay objects (changes_of es all)) (stand all fair')))
 
       -- once their units are flushed a crash that leaves their rows leaves these objects
-      pub front_sound : UnitsAreFlushed h flushed (all_fresh front) → OtherUnitsAreClean h s.log.sup (given_fresh (uncommitted s))
+      pub front_sound : UnitsAreFlushed h flushed (all_fresh front) → DataUnitsAreClean h s.log.sup (given_fresh (uncommitted s))
           → SoundFor h s.log.sup then_rows later
       front_sound flushed_units clean = record {
         good = front_good.good;
@@ -109,8 +108,8 @@ module _ (s : State) (d : Disk) (kept : IsKept s d) (up : s.down ≡ None) (fron
             (stand (intents front) front_fair);
         clean = λ unit has.
             let owned : IsOwned w then_rows unit = page_owned w then_rows unit has in
-            retired h s.log.sup (all_fresh front) (given_fresh back) flushed_units (subst (OtherUnitsAreClean h s.log.sup) given_are clean) unit
-            (data_elsewhere s.log.sup unit (owned_on_data s.log.sup then_rows unit front_good.good owned))
+            retired h s.log.sup (all_fresh front) (given_fresh back) flushed_units (subst (DataUnitsAreClean h s.log.sup) given_are clean) unit
+            (owned_on_data s.log.sup then_rows unit front_good.good owned).0
             (given_taken (λ u. u ≢ unit) back (not_behind unit owned));
       }
         where

@@ -104,7 +104,7 @@ pub now_stands : (base : ℕ) (opening : Objects) (s : State) (d : Disk) (h : Hi
 now_stands base opening s d h kept up known =
     let m = s.log in
     cut_stands h m.sup m.rows m.tail m.number (begun_ops m.begun) (submitted_from m.number m.begun) (second_flush s.batch) known.units.half.recs
-    base opening s.book (applied_count s) (start_size s d h kept known.units.told) (size_now s d h kept known.units.told) known.units.slots
+    base opening s.book (applied_count s) (start_size s d h kept known.units.told) (size_now s d h kept known.units.told) known.units.other.0
     known.units.half.stands (omega arith)
     (acked_within base (length h.log) s.acked (applied_count s) s.book.commits kept.always.book.acks kept.always.book.within)
     (rows_sound base opening s d h kept up known)

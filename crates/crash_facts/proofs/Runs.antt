@@ -149,7 +149,7 @@ pub mounted_durable : (base : ℕ) (opening : Objects) (f : Found) (space : Spac
 mounted_durable base opening f space events d h told none is =
     let s : State = opened f space events in
     let known : KnownOfStore base opening s d h = record {
-      units = opened_known base f is.recs space events d h told none is.answered is.clean is.slots is.half;
+      units = opened_known base f is.recs space events d h told none is.answered is.clean is.slots is.rests is.half;
       book = book_opened opening f space events is.stand.shape;
       stand = stand_none (width_of f.sup) (held_or_last h []) f.rows opening []
           (objects_stand (width_of f.sup) (last_at h) (held_or_last h []) f.rows (λ unit has. refl) opening is.stand);
@@ -174,7 +174,7 @@ drained_stands base opening s d h kept up drained known =
     let idle : IsIdle s = known_idle s d kept up drained in
     let half = idle_half base s d h known.units idle.begun in
     log_stands h s.log.sup s.log.rows s.log.tail s.log.number 0 (second_flush s.batch) half.0 (replay opening (accepted s.book.entries))
-    (size_now s d h kept known.units.told) known.units.slots half.1 (kept.up up).rows.good.good
+    (size_now s d h kept known.units.told) known.units.other.0 half.1 (kept.up up).rows.good.good
     (idle_objects base opening s d h kept up known idle)
 
 pub drained_exact : (base : ℕ) (opening : Objects) (s : State) (d : Disk) (h : History) → IsKept s d → s.down ≡ None → is_drained d.depth s ≡ true
@@ -183,7 +183,7 @@ drained_exact base opening s d h kept up drained known =
     let idle : IsIdle s = known_idle s d kept up drained in
     let half = idle_half base s d h known.units idle.begun in
     let found = log_reads h s.log.sup s.log.rows s.log.tail s.log.number 0 (second_flush s.batch) half.0
-    (size_now s d h kept known.units.told) known.units.slots half.1 in
+    (size_now s d h kept known.units.told) known.units.other.0 half.1 in
     exact_image (contents_at base h) (last h.start h.log) s.log.sup s.log.rows found.0 found.1
     (rows_exact (width_of s.log.sup) (IsLeakedIn (contents_at base h)) s.log.rows (intents (uncommitted s)) known.exact)
 

@@ -13,7 +13,7 @@ use Rattle.meta_rows.specs.Prelude.{Rows}
 use Rattle.meta_log.specs.Prelude.{width_of, IsSuper}
 use Rattle.store_image.specs.Prelude.{NoBadRow, HasPage, ObjectsStand}
 use Rattle.store_image.proofs.Prelude.{objects_stand, page_owned}
-use Rattle.log_facts.proofs.Keeping.{last_push, half_before_data}
+use Rattle.log_facts.proofs.Keeping.{last_push, half_before_data, half_spares_data}
 use Rattle.plan_rows.specs.declared.plan.FreshUnit.{FreshUnit}
 use Rattle.store_steps.specs.Prelude.{Batch, State, unsent_units, acknowledged, committed_batch, DoesCommit, Intent, intents, is_in, rows_by, uncommitted, given_fresh, RowsPart, DataPart, BookPart, rows_part, data_part, book_part, Touch, nothing, ends, flushes, on_data, on_half, after, run_write, IsPlaced, IsNoData, RowsGo, DataGoes, BookGoes, commits_of, AcceptsOne, IsCaused, Footprint}
 use Rattle.store_steps.specs.RowsGo as rows
@@ -29,7 +29,6 @@ use Rattle.book_facts.specs.Prelude.{IsOfEntry, KnownOfBook, IsFairSelection, ap
 use Rattle.book_facts.proofs.Prelude.{all_then, places_acknowledged, changes_at, applied_by_places, applied_entry, applied_committed, batch_last}
 use Rattle.unit_facts.specs.DataUnits.{HeldBytesAreLast}
 use Rattle.unit_facts.proofs.RunWrites.{row_spares}
-use Rattle.unit_facts.proofs.Units.{data_elsewhere, half_spares_others}
 use Rattle.crash_facts.specs.HeldBytes.{fresh_by, held_or_last}
 use Rattle.crash_facts.specs.Store.{ContextsStand}
 use Rattle.crash_facts.proofs.Admitting.{under_way_of, accept_stand}
@@ -58,8 +57,8 @@ bytes_kept flights t p q h w r xs unit (units.same spares is) placed size limits
     of_touch (on_half ticket place bytes) spares placed =
         with_same (fresh_by xs) (last_at h) (last_at (with_event h (Write place bytes))) unit
         (sym (last_push h (Write place bytes) unit (omega (arith, placed.1, half_before_data p.sup, limits.room, size))
-        (half_spares_others p.sup place unit bytes placed.0 placed.1 (data_elsewhere p.sup unit
-        (owned_on_data p.sup r unit good (page_owned (width_of p.sup) r unit (subst (λ (v : Width). HasPage v r unit) width has)))))))
+        (half_spares_data p.sup place unit bytes placed.1
+        (owned_on_data p.sup r unit good (page_owned (width_of p.sup) r unit (subst (λ (v : Width). HasPage v r unit) width has))).0)))
 bytes_kept flights t p q h w r xs unit (units.gives ticket run g) placed size limits width good own has =
     held_over h (run_write run) (fresh_by xs) unit (omega (arith, placed.1, size))
     (λ others. row_spares run.first.unit unit (unsent_units run) g.row g.whole

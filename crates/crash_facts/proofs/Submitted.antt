@@ -16,7 +16,6 @@ use Rattle.run_facts.specs.Prelude.{IsKept}
 use Rattle.run_facts.proofs.Prelude.{IsIdle, idle_uncommitted, given_of_all, none_of_bytes, page_on_data}
 use Rattle.book_facts.specs.Prelude.{applied_changes}
 use Rattle.book_facts.proofs.Prelude.{all_selected, all_under_way}
-use Rattle.unit_facts.proofs.Units.{data_elsewhere}
 use Rattle.crash_facts.specs.HeldBytes.{bytes_with, held_or_last}
 use Rattle.crash_facts.specs.Store.{KnownOfStore}
 use Rattle.crash_facts.proofs.Bytes.{fresh_are}
@@ -66,8 +65,7 @@ module _ (base : ℕ) (opening : Objects) (s : State) (d : Disk) (h : History) (
 
   -- a unit of a page that isn't in memory is clean, so that no write of it ended badly
   pub unread_good : (unit : ℕ) → HasPage (width_of s.log.sup) s.submitted unit → memory_of s unit ≡ None → HasNoBadDone h.log unit
-  unread_good unit has none = clean_good h.log unit answered_once (known.units.clean unit
-      (data_elsewhere s.log.sup unit (page_on_data s d kept up unit has))
+  unread_good unit has none = clean_good h.log unit answered_once (known.units.clean unit (page_on_data s d kept up unit has).0
       (given_of_all (λ (f : FreshUnit). ¬ (f.unit ≡ unit)) (uncommitted s) (none_of_bytes (all_fresh (uncommitted s)) unit none)))
 
   -- once nothing is under way so do the committed rows, over the bytes last written

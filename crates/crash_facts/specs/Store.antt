@@ -6,9 +6,9 @@ use Rattle.block_device.specs.Prelude.{last, IsClean, Disk, History, last_at}
 use Rattle.object_model.specs.Prelude.{Objects, replay, AnswersFrom}
 use Rattle.meta_rows.specs.declared.row_op.RowOp.{RowOp}
 use Rattle.meta_rows.specs.Prelude.{Rows}
-use Rattle.meta_log.specs.Prelude.{width_of}
+use Rattle.meta_log.specs.Prelude.{width_of, in_runs}
 use Rattle.store_image.specs.Prelude.{IsExactBut, IsLeakedIn, ObjectsStand, IsStart, EachCutStands}
-use Rattle.log_facts.specs.Prelude.{not_sent, SlotsStand, ActiveHalfStands}
+use Rattle.log_facts.specs.Prelude.{not_sent, SlotsStand, ActiveHalfStands, OtherHalfRests}
 use Rattle.store_steps.specs.Prelude.{State, Found, Intent, intents, rows_by, uncommitted}
 use Rattle.book_facts.specs.Prelude.{KnownOfBook, IsFairSelection, applied_changes, SelectionsStand}
 use Rattle.read_facts.specs.Prelude.{IsNoCsum}
@@ -56,11 +56,12 @@ KeepsDurable s d = (h : History) (base : ℕ) (opening : Objects) → d.history 
     → IsDurable base opening s d
 
 -- What a mount leaves of a device that tells its log: nothing is in flight or dirty, the log has the records that were found and zeros behind
--- them, the rows and the units stand for the objects, and each crash on the way left these.
+-- them, the other half is zero where it isn't stale, the rows and the units stand for the objects, and each crash on the way left these.
 pub record IsMounted (base : ℕ) (opening : Objects) (f : Found) (events : ℕ) (h : History) : Type 0 where
   pub answered : IsAnsweredSince base h [] events
   pub clean : (unit : ℕ) → IsClean h.log unit
   pub slots : SlotsStand h f.sup
+  pub rests : OtherHalfRests h f.sup (in_runs f.stale)
   pub recs : List (List RowOp)
   pub half : ActiveHalfStands h f.sup f.rows f.tail f.number None 0 not_sent recs
   pub stand : ObjectsStand (width_of f.sup) (last_at h) f.rows opening

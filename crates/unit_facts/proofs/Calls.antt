@@ -6,11 +6,13 @@ use Rattle.std.specs.List.{AllByRecursion}
 use Rattle.std.specs.Option.{option_map_or}
 use Rattle.byte_maps.specs.Units.{IsUnits}
 use Rattle.block_device.specs.Prelude.{last, IsClean, Disk, History, Flight}
-use Rattle.log_facts.specs.Prelude.{not_sent, SlotsStand, ActiveHalfStands}
+use Rattle.meta_log.specs.Prelude.{in_runs}
+use Rattle.log_facts.specs.Prelude.{not_sent, SlotsStand, ActiveHalfStands, OtherHalfRests}
+use Rattle.switch_facts.specs.Prelude.{OtherIsKnown}
 use Rattle.store_image.specs.Prelude.{IsDataUnit}
 use Rattle.store_steps.specs.declared.context.Context.{Context}
 use Rattle.plan_rows.specs.declared.plan.FreshUnit.{FreshUnit}
-use Rattle.store_steps.specs.Prelude.{Batch, State, uncommitted, all_fresh, flush_of, Found, opened, Call, Calls, data_part, half_part, Touch, after, Footprint}
+use Rattle.store_steps.specs.Prelude.{Batch, State, uncommitted, all_fresh, flush_of, Found, opened, Call, Calls, data_part, half_part, other_part, Touch, after, Footprint}
 use Rattle.run_facts.specs.Prelude.{IsKept}
 use Rattle.unit_allocator.specs.Prelude.{Space}
 use Rattle.meta_rows.specs.declared.row_op.RowOp.{RowOp}
@@ -21,6 +23,7 @@ use Rattle.unit_facts.proofs.Events.{IsTold, told_of}
 use Rattle.unit_facts.proofs.Units.{AreOnData}
 use Rattle.unit_facts.proofs.DataKnown.{AreKnown, AreOnDevice, units_known}
 use Rattle.unit_facts.proofs.HalfKnown.{HalfStands, half_known}
+use Rattle.unit_facts.proofs.OtherKnown.{other_known}
 
 -- ---- the batch's units
 
@@ -66,11 +69,14 @@ footprint_known base s s' d d' h f kept up known =
     (record { clean = known.clean; held = known.held; flushed_units = to_part h s.batch known.flushed }) in
     let half : HalfStands (after t h) (half_part s') =
     half_known base d.flights t (half_part s) (half_part s') h f.half f.placed size kept.always.limits known.answered.quiet known.answered.each told.next
-    (record { slots = known.slots; recs = known.half.recs; stands = known.half.stands }) in
+    (record { recs = known.half.recs; stands = known.half.stands }) in
+    let other : OtherIsKnown (after t h) (other_part s') =
+    other_known base d.flights t (other_part s) (other_part s') h f.other f.placed size kept.always.limits known.answered.quiet known.answered.each
+    told.next 0 not_sent known.half.recs (λ c none. absurd cc) known.other in
     record {
       told = told.told;
       answered = subst (IsAnsweredSince base (after t h) d'.flights) (sym f.counted) told.answered;
-      slots = half.slots;
+      other = other;
       half = record { recs = half.recs; stands = half.stands };
       clean = units.clean;
       held = units.held;
@@ -93,11 +99,12 @@ call_keeps call base s s' d d' h h' kept up known made told =
 
 pub opened_known : (base : ℕ) (f : Found) (recs : List (List RowOp)) (space : Space) (events : ℕ) (d : Disk) (h : History) → d.history ≡ Some h
     → d.flights ≡ [] → IsAnsweredSince base h [] events → ((unit : ℕ) → IsClean h.log unit) → SlotsStand h f.sup
-    → ActiveHalfStands h f.sup f.rows f.tail f.number None 0 not_sent recs → KnownOfUnits base (opened f space events) d h
-opened_known base f recs space events d h told none answered clean slots half = record {
+    → OtherHalfRests h f.sup (in_runs f.stale) → ActiveHalfStands h f.sup f.rows f.tail f.number None 0 not_sent recs
+    → KnownOfUnits base (opened f space events) d h
+opened_known base f recs space events d h told none answered clean slots rests half = record {
   told = told;
   answered = subst (λ (l : List Flight). IsAnsweredSince base h l events) (sym none) answered;
-  slots = slots;
+  other = (slots, rests);
   half = record { recs = recs; stands = half };
   clean = λ unit on other. clean unit;
   held = tt;

@@ -1,5 +1,5 @@
 -- What is known of the data units is kept, whatever a call makes of them.
-use Rattle.std.proofs.Common.{◌≡◌, ◌≢◌, inl, inr, ℕ, true, List, [], ◌∷◌, ◌++◌, length, sym, subst, arith}
+use Rattle.std.proofs.Common.{◌≡◌, ◌≢◌, inl, inr, ℕ, true, List, [], ◌∷◌, ◌++◌, ◌≤◌, length, sym, subst, arith}
 use Rattle.std.specs.List.{AllByRecursion}
 use Rattle.block_device.specs.Prelude.{last, WritesUnit, WritesNothing, History, Flight, with_event, last_at, EventFits, IsUntouched, EachWriteIsAnswered, QuietAt}
 use Rattle.block_device.specs.declared.event.Event.{Event}
@@ -7,22 +7,22 @@ use Rattle.block_device.specs.declared.event.Event.TheVariants.{Write, Flush, Do
 use Rattle.block_device.proofs.LogLemmas.{clean_push}
 use Rattle.byte_maps.specs.Units.{IsUnits}
 use Rattle.meta_log.specs.declared.slot.Super.{Super}
-use Rattle.meta_log.specs.Prelude.{IsSuper}
+use Rattle.meta_log.specs.Prelude.{IsSuper, data_unit}
 use Rattle.store_image.specs.Prelude.{IsDataUnit}
 use Rattle.log_facts.specs.Prelude.{sent, flushed}
-use Rattle.log_facts.proofs.Keeping.{half_before_data, flush_sent}
+use Rattle.log_facts.proofs.Keeping.{half_before_data, half_spares_data, flush_sent}
 use Rattle.plan_rows.specs.declared.plan.FreshUnit.{FreshUnit}
 use Rattle.store_steps.specs.Prelude.{Unsent, unsent_units, DataPart, Touch, nothing, ends, flushes, on_data, on_half, after, run_write, IsPlaced, IsNoData, DataGoes, Gives, gives, opens, flushes_batch, retires}
 use Rattle.flight_facts.proofs.Prelude.{all_join, all_left, all_right}
-use Rattle.unit_facts.specs.DataUnits.{IsElsewhere, OtherUnitsAreClean, HeldBytesAreLast, UnitsAreFlushed}
+use Rattle.unit_facts.specs.DataUnits.{DataUnitsAreClean, HeldBytesAreLast, UnitsAreFlushed}
 use Rattle.unit_facts.proofs.RunWrites.{row_spares, run_held}
-use Rattle.unit_facts.proofs.Units.{AreOnData, spares_data, none_written, fits_quiet, clean_on, held_on, flushed_on, none_flushed, units_cleaned, data_elsewhere, half_spares_others, other_or_clean}
+use Rattle.unit_facts.proofs.Units.{AreOnData, spares_data, none_written, fits_quiet, clean_on, held_on, flushed_on, none_flushed, units_cleaned, other_or_clean}
 use Rattle.unit_facts.proofs.Events.{HasNextTicket}
 use Rattle.store_steps.specs.DataGoes.{same, is_flushed}
 
 -- what is known of the data units of contexts
 pub record AreKnown (h : History) (p : DataPart) : Type 0 where
-  pub clean : OtherUnitsAreClean h p.sup p.given
+  pub clean : DataUnitsAreClean h p.sup p.given
   pub held : HeldBytesAreLast h p.given
   pub flushed_units : UnitsAreFlushed h p.first p.fresh
 
@@ -32,10 +32,10 @@ pub record AreOnDevice (p : DataPart) : Type 0 where
   pub fresh : AreOnData p.sup p.fresh
 
 -- an event that spares them
-pub spared : (h : History) (e : Event) (p : DataPart) → EventFits (length (last h.start h.log)) e → ((unit : ℕ) → IsElsewhere p.sup unit → ¬ WritesUnit unit e)
+pub spared : (h : History) (e : Event) (p : DataPart) → EventFits (length (last h.start h.log)) e → ((unit : ℕ) → data_unit p.sup ≤ unit → ¬ WritesUnit unit e)
     → AreOnDevice p → AreKnown h p → AreKnown (with_event h e) p
 spared h e p fit others on known =
-    let on_data_units : (unit : ℕ) → IsDataUnit p.sup unit → ¬ WritesUnit unit e = λ unit is. others unit (data_elsewhere p.sup unit is) in
+    let on_data_units : (unit : ℕ) → IsDataUnit p.sup unit → ¬ WritesUnit unit e = λ unit is. others unit is.0 in
     record {
       clean = clean_on h p.sup e p.given others known.clean;
       held = held_on h e p.given fit (spares_data p.sup e p.given on_data_units on.given) known.held;
@@ -53,7 +53,7 @@ same_known (ends ticket) p h spares placed size limits on known = quiet h (Done 
 same_known (flushes ticket) p h spares placed size limits on known = quiet h Flush p tt on known
 same_known (on_data ticket run) p h spares placed size limits on known = absurd spares
 same_known (on_half ticket unit bytes) p h spares placed size limits on known =
-    spared h (Write unit bytes) p (omega (arith, placed.1, half_before_data p.sup, limits.room, size)) (λ u is. half_spares_others p.sup unit u bytes placed.0 placed.1 is) on known
+    spared h (Write unit bytes) p (omega (arith, placed.1, half_before_data p.sup, limits.room, size)) (λ u is. half_spares_data p.sup unit u bytes placed.1 is) on known
 
 -- a run is submitted
 module _ (h : History) (run : Unsent) (p q : DataPart) (g : Gives run p q) (fit : EventFits (length (last h.start h.log)) (run_write run)) where
@@ -63,7 +63,7 @@ module _ (h : History) (run : Unsent) (p q : DataPart) (g : Gives run p q) (fit 
   abbrev then : History
   then = with_event h (run_write run)
 
-  pub given_clean : OtherUnitsAreClean h p.sup p.given → OtherUnitsAreClean then p.sup (g.front ++ (mine ++ g.back))
+  pub given_clean : DataUnitsAreClean h p.sup p.given → DataUnitsAreClean then p.sup (g.front ++ (mine ++ g.back))
   given_clean clean unit is other =
       let P : FreshUnit → Type 0 = λ (f : FreshUnit). f.unit ≢ unit in
       let behind : AllByRecursion P (mine ++ g.back) = all_right P g.front (mine ++ g.back) other in
@@ -88,8 +88,8 @@ covered h base flights (f ∷ fresh) quiet_since each untouched =
     (flush_sent h base flights f.unit quiet_since each untouched.0, covered h base flights fresh quiet_since each untouched.1)
 
 -- the batch's units are clean
-pub retired : (h : History) (s : Super) (fresh rest : List FreshUnit) → UnitsAreFlushed h flushed fresh → OtherUnitsAreClean h s (fresh ++ rest)
-    → OtherUnitsAreClean h s rest
+pub retired : (h : History) (s : Super) (fresh rest : List FreshUnit) → UnitsAreFlushed h flushed fresh → DataUnitsAreClean h s (fresh ++ rest)
+    → DataUnitsAreClean h s rest
 retired h s fresh rest are clean unit is others = elim (other_or_clean h fresh unit are) [
   | inl none ↦ clean unit is (all_join (λ f. f.unit ≢ unit) fresh rest none others)
   | inr is_clean ↦ is_clean
@@ -139,7 +139,7 @@ units_known base flights t p q h (is_flushed ticket was is) placed size limits o
 units_known base flights t p q h (retires rest was before is) placed size limits on quiet_since each next known =
     let are : UnitsAreFlushed h flushed p.fresh = subst (λ f. UnitsAreFlushed h f p.fresh) was known.flushed_units in
     subst (AreKnown h) (sym is) (record {
-      clean = retired h p.sup p.fresh rest are (subst (OtherUnitsAreClean h p.sup) before known.clean);
+      clean = retired h p.sup p.fresh rest are (subst (DataUnitsAreClean h p.sup) before known.clean);
       held = all_right (λ (f : FreshUnit). last_at h f.unit ≡ f.bytes) p.fresh rest (subst (HeldBytesAreLast h) before known.held);
       flushed_units = tt;
     })

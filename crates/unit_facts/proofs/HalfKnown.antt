@@ -1,4 +1,4 @@
--- What is known of the slots and of the active half is kept, whatever a call makes of them.
+-- What is known of the active half is kept, whatever a call makes of them.
 use Rattle.std.proofs.Common.{◌≡◌, ℕ, true, List, [], ◌∷◌, ◌++◌, length, Option, Some, None, refl, sym, subst, arith}
 use Rattle.byte_maps.specs.Units.{IsUnits}
 use Rattle.block_device.specs.Prelude.{last, WritesNothing, History, Flight, with_event, EventFits, EachWriteIsAnswered, QuietAt}
@@ -6,16 +6,15 @@ use Rattle.block_device.specs.declared.event.Event.{Event}
 use Rattle.block_device.specs.declared.event.Event.TheVariants.{Write, Flush, Done}
 use Rattle.meta_rows.specs.declared.row_op.RowOp.{RowOp}
 use Rattle.meta_log.specs.Prelude.{IsSuper, active_unit}
-use Rattle.log_facts.specs.Prelude.{FlushState, not_sent, sent, flushed, WritesNoneOf, SlotsStand, ActiveHalfStands}
-use Rattle.log_facts.proofs.Keeping.{data_spares_slots, data_spares_half, half_spares_slots, half_before_data, slots_push, half_push, slots_quiet, half_quiet}
+use Rattle.log_facts.specs.Prelude.{FlushState, not_sent, sent, flushed, WritesNoneOf, ActiveHalfStands}
+use Rattle.log_facts.proofs.Keeping.{data_spares_half, half_before_data, half_push, half_quiet}
 use Rattle.log_facts.proofs.Writing.{half_begin, half_piece, half_sync, half_synced, half_commit}
 use Rattle.store_steps.specs.Prelude.{unsent_units, run_bytes, HalfPart, Touch, nothing, ends, flushes, on_data, on_half, after, run_write, IsPlaced, IsNoPiece, HalfGoes, begins, gives_piece, syncs, is_synced, moves_on}
 use Rattle.unit_facts.proofs.Events.{HasNextTicket}
 use Rattle.store_steps.specs.HalfGoes.{same}
 
--- the slots, and the active half with some records
+-- the active half with some records
 pub record HalfStands (h : History) (p : HalfPart) : Type 0 where
-  pub slots : SlotsStand h p.sup
   pub recs : List (List RowOp)
   pub stands : ActiveHalfStands h p.sup p.rows p.tail p.number p.begun p.from p.second recs
 
@@ -28,17 +27,15 @@ stands_at : (h : History) (p : HalfPart) (begun : Option (List RowOp)) (second :
 stands_at h p begun second recs b f stands =
     subst (λ o. StandsAt h p o p.from second recs) b (subst (λ g. StandsAt h p p.begun p.from g recs) f stands)
 
-spared : (h : History) (e : Event) (p : HalfPart) → EventFits (length (last h.start h.log)) e → WritesNoneOf 0 2 e
+spared : (h : History) (e : Event) (p : HalfPart) → EventFits (length (last h.start h.log)) e
     → WritesNoneOf (active_unit p.sup) p.sup.half e → HalfStands h p → HalfStands (with_event h e) p
-spared h e p fit slots half known = record {
-  slots = slots_push h p.sup e fit slots known.slots;
+spared h e p fit half known = record {
   recs = known.recs;
   stands = half_push h p.sup p.rows p.tail p.number p.begun p.from p.second known.recs e fit half known.stands;
 }
 
 quiet : (h : History) (e : Event) (p : HalfPart) → WritesNothing e → HalfStands h p → HalfStands (with_event h e) p
 quiet h e p none known = record {
-  slots = slots_quiet h p.sup e none known.slots;
   recs = known.recs;
   stands = half_quiet h p.sup p.rows p.tail p.number p.begun p.from p.second known.recs e none known.stands;
 }
@@ -50,8 +47,7 @@ same_half (ends ticket) p h spares placed size known = quiet h (Done ticket true
 same_half (flushes ticket) p h spares placed size known = quiet h Flush p tt known
 same_half (on_data ticket run) p h spares placed size known =
     let bytes : List ℕ = run_bytes (unsent_units run) in
-    spared h (run_write run) p (omega (arith, placed.1, size)) (data_spares_slots p.sup run.first.unit bytes placed.0.0.0)
-    (data_spares_half p.sup run.first.unit bytes placed.0.0.0) known
+    spared h (run_write run) p (omega (arith, placed.1, size)) (data_spares_half p.sup run.first.unit bytes placed.0.0.0) known
 same_half (on_half ticket unit bytes) p h spares placed size known = absurd spares
 
 pub half_known : (base : ℕ) (flights : List Flight) (t : Touch) (p q : HalfPart) (h : History) → HalfGoes flights t p q → IsPlaced p.sup t
@@ -61,7 +57,6 @@ half_known base flights t p q h (same spares is) placed size limits quiet_since 
     subst (HalfStands (after t h)) (sym is) (same_half t p h spares placed size known)
 half_known base flights t p q h (begins ops none spellable room is) placed size limits quiet_since each next known =
     subst (HalfStands h) (sym is) (record {
-      slots = known.slots;
       recs = known.recs;
       stands = half_begin h p.sup p.rows p.tail p.number ops known.recs p.from p.second spellable room
           (stands_at h p None p.second known.recs none refl known.stands);
@@ -70,7 +65,6 @@ half_known base flights t p q h (gives_piece ticket unit bytes g) placed size li
     let e : Event = Write unit bytes in
     let fit : EventFits (length (last h.start h.log)) e = omega (arith, placed.1, half_before_data p.sup, limits.room, size) in
     subst (HalfStands (with_event h e)) (sym g.then) (record {
-      slots = slots_push h p.sup e fit (half_spares_slots p.sup unit bytes placed.0) known.slots;
       recs = known.recs;
       stands = subst (λ o. StandsAt (with_event h e) p o g.from p.second known.recs) (sym g.begun)
           (subst (λ f. StandsAt (with_event h e) p (Some g.ops) g.from f known.recs) (sym g.second)
@@ -79,7 +73,6 @@ half_known base flights t p q h (gives_piece ticket unit bytes g) placed size li
     })
 half_known base flights t p q h (syncs ticket ops begun second untouched is) placed size limits quiet_since each next known =
     subst (HalfStands (with_event h Flush)) (sym is) (record {
-      slots = slots_quiet h p.sup Flush tt known.slots;
       recs = known.recs;
       stands = subst (λ o. StandsAt (with_event h Flush) p o p.from (sent ticket) known.recs) (sym begun)
           (subst (λ (n : ℕ). StandsAt (with_event h Flush) p (Some ops) p.from (sent n) known.recs) (sym next)
@@ -89,7 +82,6 @@ half_known base flights t p q h (syncs ticket ops begun second untouched is) pla
 half_known base flights t p q h (is_synced ticket ops begun second is) placed size limits quiet_since each next known =
     let e : Event = Done ticket true in
     subst (HalfStands (with_event h e)) (sym is) (record {
-      slots = slots_quiet h p.sup e tt known.slots;
       recs = known.recs;
       stands = subst (λ o. StandsAt (with_event h e) p o p.from flushed known.recs) (sym begun)
           (half_synced h p.sup p.rows p.tail p.number ops known.recs ticket p.from
@@ -97,7 +89,6 @@ half_known base flights t p q h (is_synced ticket ops begun second is) placed si
     })
 half_known base flights t p q h (moves_on ops begun from second is) placed size limits quiet_since each next known =
     subst (HalfStands h) (sym is) (record {
-      slots = known.slots;
       recs = known.recs ++ ops ∷ [];
       stands = half_commit h p.sup p.rows p.tail p.number ops known.recs
           (subst (λ n. StandsAt h p (Some ops) n flushed known.recs) from (stands_at h p (Some ops) flushed known.recs begun second known.stands));

@@ -3,5 +3,6 @@ pub mod Units
 pub mod RunWrites
 pub mod DataKnown
 pub mod HalfKnown
+pub mod OtherKnown
 pub mod Calls
 pub mod Runs

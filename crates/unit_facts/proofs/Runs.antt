@@ -1,11 +1,11 @@
 -- Runs of calls from a store that was just opened, and what is known when they are over.
-use Rattle.std.proofs.Common.{◌≡◌, inl, inr, ℕ, ◌+◌, ◌-◌, ◌<◌, List, [], ◌∷◌, true, Option, None, sym, ap, subst, ◌∙◌, arith}
+use Rattle.std.proofs.Common.{◌≡◌, inl, inr, ℕ, ◌+◌, ◌<◌, List, [], ◌∷◌, true, Option, None, sym, ap, subst, ◌∙◌, arith}
 use Rattle.std.proofs.lemmas.Bool.{cases_lt}
 use Rattle.block_device.specs.Prelude.{IsClean, Disk, History}
 use Rattle.meta_rows.specs.declared.row_op.RowOp.{RowOp}
 use Rattle.meta_rows.specs.Prelude.{Rows}
 use Rattle.meta_log.specs.declared.slot.Super.{Super}
-use Rattle.meta_log.specs.Prelude.{active_unit}
+use Rattle.meta_log.specs.Prelude.{active_unit, data_unit}
 use Rattle.plan_drafts.specs.Prelude.{PlansKeep}
 use Rattle.store_steps.specs.declared.context.Context.{Context}
 use Rattle.meta_store.specs.Store.{Begun}
@@ -13,8 +13,9 @@ use Rattle.store_steps.specs.Prelude.{State, is_drained, Call, IsRun, uncommitte
 use Rattle.run_facts.specs.Prelude.{IsKept}
 use Rattle.run_facts.proofs.Prelude.{kept_call, known_idle, IsIdle, idle_uncommitted, was_up}
 use Rattle.log_facts.specs.Prelude.{FlushState, ActiveHalfStands}
-use Rattle.unit_facts.specs.DataUnits.{IsElsewhere, OtherUnitsAreClean}
+use Rattle.unit_facts.specs.DataUnits.{DataUnitsAreClean}
 use Rattle.unit_facts.specs.Known.{KnownOfUnits, Knows}
+use Rattle.unit_facts.proofs.OtherKnown.{log_clean}
 use Rattle.unit_facts.proofs.Calls.{call_knows}
 
 -- ---- a run that leaves the kernel up found it up
@@ -58,21 +59,13 @@ half_clean h s rows tail number k second recs stands below = elim (cases_lt k ta
 
 pub idle_clean : (base : ℕ) (s : State) (d : Disk) (h : History) → KnownOfUnits base s d h → s.log.begun ≡ None → uncommitted s ≡ []
     → (unit : ℕ) → IsClean h.log unit
-idle_clean base s d h known none idle unit = elim (cases_lt unit (active_unit s.log.sup)) [
-  | inl before ↦ elsewhere (inl before)
-  | inr from ↦
-      elim (cases_lt unit (active_unit s.log.sup + s.log.sup.half)) [
-        | inl inside ↦
-            let half = idle_half base s d h known none in
-            subst (IsClean h.log) (omega (arith, from))
-            (half_clean h s.log.sup s.log.rows s.log.tail s.log.number (unit - active_unit s.log.sup) (second_flush s.batch) half.0 half.1
-            (omega (arith, from, inside)))
-        | inr behind ↦ elsewhere (inr behind)
-      ]
+idle_clean base s d h known none idle unit = elim (cases_lt unit (data_unit s.log.sup)) [
+  | inl inside ↦
+      let half = idle_half base s d h known none in
+      log_clean h s.log.sup known.other.0 known.other.1.clean
+      (λ k below. half_clean h s.log.sup s.log.rows s.log.tail s.log.number k (second_flush s.batch) half.0 half.1 below) unit inside
+  | inr behind ↦ subst (λ (xs : List Context). DataUnitsAreClean h s.log.sup (given_fresh xs)) idle known.clean unit behind tt
 ]
-  where
-    elsewhere : IsElsewhere s.log.sup unit → IsClean h.log unit
-    elsewhere is = subst (λ (xs : List Context). OtherUnitsAreClean h s.log.sup (given_fresh xs)) idle known.clean unit is tt
 
 pub drained_clean : (base : ℕ) (s : State) (d : Disk) (h : History) → IsKept s d → KnownOfUnits base s d h → s.down ≡ None
     → is_drained d.depth s ≡ true → (unit : ℕ) → IsClean h.log unit

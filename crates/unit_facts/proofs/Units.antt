@@ -1,5 +1,5 @@
 -- What is known of the data units, over an event that writes none of them, and as a batch is flushed and committed.
-use Rattle.std.proofs.Common.{◌≢◌, ◌⊎◌, inl, inr, true, ℕ, ◌+◌, ◌*◌, ◌≤◌, List, [], ◌∷◌, length}
+use Rattle.std.proofs.Common.{◌≢◌, ◌⊎◌, inl, inr, true, ℕ, ◌≤◌, List, [], ◌∷◌, length}
 use Rattle.std.proofs.Common.{subst}
 use Rattle.std.proofs.Common.{◌∙◌, arith}
 use Rattle.std.specs.List.{AllByRecursion}
@@ -9,13 +9,13 @@ use Rattle.block_device.specs.declared.event.Event.{Event}
 use Rattle.block_device.specs.declared.event.Event.TheVariants.{Write, Flush, Done}
 use Rattle.block_device.proofs.LogLemmas.{clean_push}
 use Rattle.meta_log.specs.declared.slot.Super.{Super}
-use Rattle.meta_log.specs.Prelude.{active_unit}
+use Rattle.meta_log.specs.Prelude.{data_unit}
 use Rattle.store_image.specs.Prelude.{IsDataUnit}
 use Rattle.log_facts.specs.Prelude.{FlushState, not_sent, sent, flushed}
-use Rattle.log_facts.proofs.Keeping.{last_push, flushed_push, flush_ended, nothing_written, half_before_data}
+use Rattle.log_facts.proofs.Keeping.{last_push, flushed_push, flush_ended, nothing_written}
 use Rattle.plan_rows.specs.declared.plan.FreshUnit.{FreshUnit}
 use Rattle.store_steps.specs.Prelude.{Spares}
-use Rattle.unit_facts.specs.DataUnits.{IsElsewhere, OtherUnitsAreClean, HeldBytesAreLast, UnitsAreFlushed}
+use Rattle.unit_facts.specs.DataUnits.{DataUnitsAreClean, HeldBytesAreLast, UnitsAreFlushed}
 
 -- ---- the fresh units are data units
 
@@ -37,8 +37,8 @@ fits_quiet size (Write at bytes) none = absurd none
 fits_quiet size Flush none = tt
 fits_quiet size (Done ticket ok) none = tt
 
-pub clean_on : (h : History) (s : Super) (e : Event) (given : List FreshUnit) → ((unit : ℕ) → IsElsewhere s unit → ¬ WritesUnit unit e)
-    → OtherUnitsAreClean h s given → OtherUnitsAreClean (with_event h e) s given
+pub clean_on : (h : History) (s : Super) (e : Event) (given : List FreshUnit) → ((unit : ℕ) → data_unit s ≤ unit → ¬ WritesUnit unit e)
+    → DataUnitsAreClean h s given → DataUnitsAreClean (with_event h e) s given
 clean_on h s e given spared clean unit is other = clean_push h.log e unit (clean unit is other) (spared unit is)
 
 pub held_on : (h : History) (e : Event) (given : List FreshUnit) → EventFits (length (last h.start h.log)) e → Spares e given
@@ -63,7 +63,7 @@ pub units_cleaned : (h : History) (flush : ℕ) (fresh : List FreshUnit) → Uni
 units_cleaned h flush [] are = tt
 units_cleaned h flush (f ∷ fresh) are = (flush_ended h flush f.unit are.0, units_cleaned h flush fresh are.1)
 
--- ---- once its flush has ended a batch leaves all units outside the half clean
+-- ---- once its flush has ended a batch leaves all units behind the log clean
 
 -- the unit is none of these, or clean as they are
 pub other_or_clean : (h : History) (fresh : List FreshUnit) (unit : ℕ) → UnitsAreFlushed h flushed fresh
@@ -77,13 +77,3 @@ other_or_clean h (f ∷ fresh) unit are = elim (cases_eq f.unit unit) [
         | inr clean ↦ inr clean
       ]
 ]
-
--- a data unit is outside the active half
-pub data_elsewhere : (s : Super) (unit : ℕ) → IsDataUnit s unit → IsElsewhere s unit
-data_elsewhere s unit is = inr (omega (arith, is.0, half_before_data s))
-
--- a write inside the half spares all else
-pub half_spares_others : (s : Super) (at unit : ℕ) (bytes : List ℕ) → active_unit s ≤ at
-    → 4096 * at + length bytes ≤ 4096 * (active_unit s + s.half) → IsElsewhere s unit → ¬ WritesUnit unit (Write at bytes)
-half_spares_others s at unit bytes low inside (inl before) covers = omega (arith, covers.0, low, before)
-half_spares_others s at unit bytes low inside (inr behind) covers = omega (arith, covers.1, inside, behind)

@@ -1,20 +1,16 @@
--- What is known of the units outside the log, by those that the contexts under way have taken.
-use Rattle.std.specs.Prelude.{◌≡◌, ◌≢◌, ◌⊎◌, ℕ, ◌+◌, ◌<◌, ◌≤◌, List, Option, Some, None}
+-- What is known of the units behind the log, by those that the contexts under way have taken.
+use Rattle.std.specs.Prelude.{◌≡◌, ◌≢◌, ℕ, ◌≤◌, List, Option, Some, None}
 use Rattle.std.specs.List.{AllByRecursion}
 use Rattle.block_device.specs.Prelude.{IsClean, History, last_at}
 use Rattle.meta_log.specs.declared.slot.Super.{Super}
-use Rattle.meta_log.specs.Prelude.{active_unit}
+use Rattle.meta_log.specs.Prelude.{data_unit}
 use Rattle.log_facts.specs.Prelude.{FlushState, IsFlushed}
 use Rattle.plan_rows.specs.declared.plan.FreshUnit.{FreshUnit}
 use Rattle.store_steps.specs.Prelude.{Batch, flush_of, all_fresh}
 
--- the unit is none of the active half of the log
-abbrev pub IsElsewhere : Super → ℕ → Type 0
-IsElsewhere s unit = (unit < active_unit s) ⊎ (active_unit s + s.half ≤ unit)
-
--- each unit outside the active half but for these, whose writes were submitted, is clean
-abbrev pub OtherUnitsAreClean : History → Super → List FreshUnit → Type 0
-OtherUnitsAreClean h s given = (unit : ℕ) → IsElsewhere s unit → AllByRecursion (λ f. f.unit ≢ unit) given → IsClean h.log unit
+-- each unit behind the log but for these, whose writes were submitted, is clean
+abbrev pub DataUnitsAreClean : History → Super → List FreshUnit → Type 0
+DataUnitsAreClean h s given = (unit : ℕ) → data_unit s ≤ unit → AllByRecursion (λ f. f.unit ≢ unit) given → IsClean h.log unit
 
 -- the bytes last written to these are theirs
 abbrev pub HeldBytesAreLast : History → List FreshUnit → Type 0

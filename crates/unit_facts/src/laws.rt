@@ -2,19 +2,21 @@
 ghost use Rattle.std.specs.Prelude.{◌≡◌, ℕ, true, List, [], Some, None};
 ghost use Rattle.block_device.specs.Prelude.{IsClean, Disk, History};
 ghost use Rattle.meta_rows.specs.declared.row_op.RowOp.{RowOp};
-ghost use Rattle.log_facts.specs.Prelude.{not_sent, SlotsStand, ActiveHalfStands};
+ghost use Rattle.meta_log.specs.Prelude.{in_runs};
+ghost use Rattle.log_facts.specs.Prelude.{not_sent, SlotsStand, ActiveHalfStands, OtherHalfRests};
 ghost use Rattle.unit_allocator.specs.Prelude.{Space};
 ghost use Rattle.plan_drafts.specs.Prelude.{PlansKeep};
 ghost use Rattle.store_steps.specs.Prelude.{State, is_drained, Found, opened, Call, Calls, IsRun};
 ghost use Rattle.run_facts.specs.Prelude.{IsKept};
 ghost use Rattle.unit_facts.specs.Known.{IsAnsweredSince, KnownOfUnits, Knows};
 
-/// A device without a dirty unit, where nothing is in flight and all events since a quiet moment are counted, is known from its slots and
-/// from the records in the active half, with zeros behind them.
+/// A device without a dirty unit, where nothing is in flight and all events since a quiet moment are counted, is known from its slots,
+/// from the records in the active half, with zeros behind them, and from the other half, which is zero where it isn't listed as stale.
 pub fn a_found_device_is_known()
     ensures { (base : ℕ) (f : Found) (recs : List (List RowOp)) (space : Space) (events : ℕ) (d : Disk) (h : History) →
         d.history ≡ Some h → d.flights ≡ [] → IsAnsweredSince base h [] events → ((unit : ℕ) → IsClean h.log unit) →
-        SlotsStand h f.sup → ActiveHalfStands h f.sup f.rows f.tail f.number None 0 not_sent recs →
+        SlotsStand h f.sup → OtherHalfRests h f.sup (in_runs f.stale) →
+        ActiveHalfStands h f.sup f.rows f.tail f.number None 0 not_sent recs →
         KnownOfUnits base (opened f space events) d h }
 {}
 

@@ -1,5 +1,5 @@
-//! What is known of a device that tells its log, from one call of the kernel to the next: its slots, the active half of its log, and
-//! the units that transactions under way have taken.
+//! What is known of a device that tells its log, from one call of the kernel to the next: its slots, both halves of its log, and the
+//! units that transactions under way have taken.
 //!
 //! Proved: each call keeps it; once drained no unit is dirty.
 #![tactic(auto)]

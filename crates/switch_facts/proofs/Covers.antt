@@ -4,14 +4,14 @@ use Rattle.std.proofs.lemmas.Bool.{cases_lt, lt-ltb, le-ltb}
 use Rattle.meta_log.specs.declared.runs.UnitRun.{UnitRun}
 use Rattle.meta_log.specs.Prelude.{piece_count, in_run, in_runs, record_runs, cut_run, zero_runs, check_runs}
 
-in_it : (first count k : ℕ) → first ≤ k → k < first + count → in_run (record { first = first; count = count }) k ≡ true
+pub in_it : (first count k : ℕ) → first ≤ k → k < first + count → in_run (record { first = first; count = count }) k ≡ true
 in_it first count k from below =
     ap (λ b. not b && nat_lt k (first + count)) (le-ltb k first from) ∙ lt-ltb k (first + count) below
 
-or_left : (a b : Bool) → a ≡ true → (a || b) ≡ true
+pub or_left : (a b : Bool) → a ≡ true → (a || b) ≡ true
 or_left a b is = ap (λ x. x || b) is
 
-or_right : (a b : Bool) → b ≡ true → (a || b) ≡ true
+pub or_right : (a b : Bool) → b ≡ true → (a || b) ≡ true
 or_right true b is = refl
 or_right false b is = is
 
@@ -50,11 +50,11 @@ cut_covers (suc most) first (suc less) k few from below = elim (cases_lt k (firs
       (cut_covers most (first + 64) (suc less - 64) k (omega (arith, few)) later (omega (arith, later, below)))
 ]
 
-never : false ≡ true → ⊥
+pub never : false ≡ true → ⊥
 never e = absurd cc
 
 -- a unit of a run lies between its ends
-inside_it : (r : UnitRun) (k : ℕ) → in_run r k ≡ true → (r.first ≤ k) × (k < r.first + r.count)
+pub inside_it : (r : UnitRun) (k : ℕ) → in_run r k ≡ true → (r.first ≤ k) × (k < r.first + r.count)
 inside_it r k is = elim (cases_lt k r.first) [
   | inl less ↦ absurd (never (ap (λ b. not b && nat_lt k (r.first + r.count)) (sym (lt-ltb k r.first less)) ∙ is))
   | inr from ↦ elim (cases_lt k (r.first + r.count)) [
@@ -64,10 +64,10 @@ inside_it r k is = elim (cases_lt k r.first) [
   ]
 ]
 
-abbrev first_of : ℕ → UnitRun → ℕ
+abbrev pub first_of : ℕ → UnitRun → ℕ
 first_of units r = max units r.first
 
-abbrev count_of : ℕ → UnitRun → ℕ
+abbrev pub count_of : ℕ → UnitRun → ℕ
 count_of units r = r.first + r.count - first_of units r
 
 zeros_cover : (units : ℕ) (stale : List UnitRun) (k : ℕ) → units ≤ k → in_runs stale k ≡ true → in_runs (zero_runs units stale) k ≡ true

@@ -11,7 +11,7 @@ use Rattle.log_facts.specs.Prelude.{FlushState, not_sent, sent, flushed, WritesN
 use Rattle.log_facts.proofs.Keeping.{slots_push, slots_quiet, half_push, half_quiet, written_before, written_behind}
 use Rattle.log_facts.proofs.Switching.{follows, rests_push, check_push, next_slot_push, check_piece, check_flush, check_flushed, check_half, slot_write, next_slot_flush, next_slot_flushed, switch_slots, switch_rests}
 use Rattle.log_facts.proofs.RowsBegin.{rows_begin}
-use Rattle.switch_facts.specs.Prelude.{SlotPhase, unwritten, written, CheckPart, OtherPart, with_any, IsElsewhere, GivesRun, IsAllGiven, switched, OtherGoes, IsSlotKnown, IsCheckKnown, OtherIsKnown, IsFitting}
+use Rattle.switch_facts.specs.Prelude.{SlotPhase, unwritten, written, CheckPart, OtherPart, with_any, IsElsewhere, GivesRun, IsNothingLeft, switched, OtherGoes, IsSlotKnown, IsCheckKnown, OtherIsKnown, IsFitting}
 use Rattle.switch_facts.specs.OtherGoes.{same, commits, begins, gives, flushes, is_flushed, writes_slot, flushes_slot, slot_flushed, switches}
 
 -- ---- by the checkpoint that is opened
@@ -113,7 +113,7 @@ module _ (h : History) (p : OtherPart) where
 
   -- ---- its slot
 
-  slot_goes : (c : CheckPart) → p.check ≡ Some c → c.flush ≡ flushed → c.slot ≡ unwritten → IsAllGiven p c → IsSuper (next_super p.sup p.number)
+  slot_goes : (c : CheckPart) → p.check ≡ Some c → c.flush ≡ flushed → c.slot ≡ unwritten → IsNothingLeft p c → IsSuper (next_super p.sup p.number)
       → 4096 * 2 ≤ length (last h.start h.log) → OtherIsKnown h p
       → OtherIsKnown (with_event h (Write (other_slot p.sup) (super_bytes (next_super p.sup p.number))))
       (record p { check = Some (record c { slot = written not_sent }) })

@@ -35,8 +35,8 @@ abbrev pub IsLeftToWrite : OtherPart → (ℕ → Bool) → Type 0
 IsLeftToWrite p left = (k : ℕ) → k < p.sup.half → left k ≡ false → (check_units p.number p.rows ≤ k) × (p.is_stale k ≡ false)
 
 -- nothing is left of it
-abbrev pub IsAllGiven : OtherPart → CheckPart → Type 0
-IsAllGiven p c = (k : ℕ) → k < p.sup.half → c.is_left k ≡ false
+abbrev pub IsNothingLeft : OtherPart → CheckPart → Type 0
+IsNothingLeft p c = (k : ℕ) → k < p.sup.half → c.is_left k ≡ false
 
 -- What one call makes of it that makes an event of the device, or none; a submission has this ticket. It stays, with no write in it; without a
 -- checkpoint a batch is committed; a checkpoint begins, goes to the device run by run, is flushed; its slot is written and flushed; the halves change
@@ -54,7 +54,7 @@ pub data OtherGoes (flights : List Flight) (ticket : ℕ) : Option Event → Oth
       → OtherGoes flights ticket (Some Flush) p q
   is_flushed : {p q : OtherPart} (c : CheckPart) (flush : ℕ) → p.check ≡ Some c → c.flush ≡ sent flush → c.slot ≡ unwritten
       → q ≡ record p { check = Some (record c { flush = flushed }) } → OtherGoes flights ticket (Some (Done flush true)) p q
-  writes_slot : {p q : OtherPart} (c : CheckPart) → p.check ≡ Some c → c.flush ≡ flushed → c.slot ≡ unwritten → IsAllGiven p c
+  writes_slot : {p q : OtherPart} (c : CheckPart) → p.check ≡ Some c → c.flush ≡ flushed → c.slot ≡ unwritten → IsNothingLeft p c
       → IsSuper (next_super p.sup p.number) → q ≡ record p { check = Some (record c { slot = written not_sent }) }
       → OtherGoes flights ticket (Some (Write (other_slot p.sup) (super_bytes (next_super p.sup p.number)))) p q
   flushes_slot : {p q : OtherPart} (c : CheckPart) → p.check ≡ Some c → c.slot ≡ written not_sent → IsUntouched flights (other_slot p.sup)

@@ -1,5 +1,6 @@
 //! How it goes on from one call to the next, and what it comes to.
 ghost use Rattle.std.specs.Prelude.{◌≡◌, ◌⊎◌, false, ℕ, ◌+◌, ◌*◌, ◌<◌, ◌≤◌, ◌∷◌, List, length, take, Option, Some, None};
+ghost use Rattle.std.specs.List.{AllByRecursion};
 ghost use Rattle.byte_maps.specs.Units.{IsUnits};
 ghost use Rattle.block_device.specs.Prelude.{last, History, Flight, EventFits, EachWriteIsAnswered, QuietAt};
 ghost use Rattle.block_device.specs.declared.event.Event.{Event};
@@ -13,7 +14,7 @@ ghost use Rattle.meta_log.specs.declared.runs.UnitRun.{UnitRun};
 ghost use Rattle.meta_log.specs.Prelude.{width_of, check_records, in_runs, check_runs};
 ghost use Rattle.store_image.specs.Prelude.{IsExactBut, IsLeakedIn, LeavesPrefix};
 ghost use Rattle.log_facts.specs.Prelude.{FlushState, not_sent, flushed, ActiveHalfStands, SoundFor};
-ghost use Rattle.switch_facts.specs.Prelude.{OtherPart, SlotPhase, written, CheckPart, OtherGoes, OtherIsKnown, IsFitting, with_any, switched};
+ghost use Rattle.switch_facts.specs.Prelude.{OtherPart, SlotPhase, written, CheckPart, OtherGoes, OtherIsKnown, IsFitting, with_any, switched, LiesInHalf, IsPieceOf, AreApart};
 
 /// Each call keeps what is known of the slots and the other half, whatever it makes of them. While a checkpoint is written the half in use has its
 /// records and no more, since no batch is open.
@@ -49,4 +50,12 @@ pub fn the_pieces_cover()
         (units ≤ k) × (in_runs stale k ≡ false) }
     ensures given { (r : UnitRun) (rs : List UnitRun) (k : ℕ) → in_runs rs k ≡ false →
         (in_runs (r ∷ rs) k ≡ false) ⊎ ((r.first ≤ k) × (k < r.first + r.count)) }
+{}
+
+/// A piece of a checkpoint isn't empty, has at most 64 units and lies in the half, where its record and each stale run do. No unit is in two of
+/// them, where none is in two stale runs.
+pub fn the_pieces_are_apart()
+    ensures fit { (half units : ℕ) (stale : List UnitRun) → units ≤ half → AllByRecursion (LiesInHalf half) stale →
+        AllByRecursion (IsPieceOf half) (check_runs units stale) }
+    ensures apart { (units : ℕ) (stale : List UnitRun) → AreApart stale → AreApart (check_runs units stale) }
 {}

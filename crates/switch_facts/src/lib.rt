@@ -7,5 +7,6 @@
 mod laws;
 
 pub use laws::{
-    a_cut_while_halves_switch, a_switch_makes_the_half, steps_keep_the_other_half, the_pieces_cover,
+    a_cut_while_halves_switch, a_switch_makes_the_half, steps_keep_the_other_half,
+    the_pieces_are_apart, the_pieces_cover,
 };

@@ -14,11 +14,11 @@ use Rattle.object_model.specs.declared.book.Book.{Book}
 use Rattle.object_model.specs.Prelude.{Objects}
 use Rattle.meta_rows.specs.declared.row_op.RowOp.{RowOp}
 use Rattle.meta_log.specs.declared.slot.Super.{Super}
-use Rattle.meta_log.specs.Prelude.{active_half, AreRowsOf, units_of_records, width_of, IsSuper, IsActiveSlot, active_unit}
+use Rattle.meta_log.specs.Prelude.{active_half, AreRowsOf, units_of_records, width_of, IsSuper, IsActiveSlot, active_unit, in_runs}
 use Rattle.meta_log.proofs.SlotLemmas.{same_active}
 use Rattle.store_image.specs.Prelude.{NoBadRow, IsOwned, IsExactAs, ObjectsStand, StandsFor, LeavesPrefix, EachCutStands}
 use Rattle.store_image.proofs.Prelude.{as_image, stays_by_rows, same_rows, objects_stand, page_owned, start_is_durable}
-use Rattle.log_facts.specs.Prelude.{WritesNoneOf, SlotsStand, RecordsStand, EndsInZeros, SoundFor}
+use Rattle.log_facts.specs.Prelude.{WritesNoneOf, SlotsStand, RecordsStand, EndsInZeros, SoundFor, OtherHalfRests}
 use Rattle.log_facts.proofs.Keeping.{slots_push, last_push, written_behind, half_spares_slots, half_spares_data}
 use Rattle.log_facts.proofs.Mounting.{fresh_slots}
 use Rattle.log_facts.proofs.Reading.{half_inside}
@@ -296,8 +296,8 @@ module _ (f : Found) (h : History) (objects : Objects) (clean : IsAllClean h) (w
 
   pub is_mounted : (k : History) (count : ℕ) → ClearsSoFar (active_unit f.sup + f.tail) (active_unit f.sup + f.sup.half) (behind_records (last h.start h.log) f) h k
       → IsCleared (active_unit f.sup + f.tail) (active_unit f.sup + f.sup.half) (behind_records (last h.start h.log) f) count h k
-      → IsExactAs (width_of f.sup) f.rows f.rows → IsMounted (length h.log) objects f count k
-  is_mounted k count so_far cleared exact =
+      → IsExactAs (width_of f.sup) f.rows f.rows → OtherHalfRests k f.sup (in_runs f.stale) → IsMounted (length h.log) objects f count k
+  is_mounted k count so_far cleared exact rests =
       let after = after_clearing k so_far in
       let front : take (length h.log) k.log ≡ h.log = ap (take (length h.log)) cleared.by.more ∙ take_at h.log cleared.events (length h.log) refl in
       let all_clean : IsAllClean k = cleared.clean clean in
@@ -311,6 +311,7 @@ module _ (f : Found) (h : History) (objects : Objects) (clean : IsAllClean h) (w
         };
         clean = all_clean;
         slots = after.stands.slots;
+        rests = rests;
         recs = found.replay.records;
         half = cleared_half k f.sup f.rows f.tail f.number found.replay.records after.stands.records (λ j past below. record {
           clean = all_clean (active_unit f.sup + j);

@@ -6,3 +6,4 @@ pub mod SealLemmas
 pub mod PartLemmas
 pub mod ScanLemmas
 pub mod RowsLemmas
+pub mod RunLemmas

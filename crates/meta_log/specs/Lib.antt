@@ -4,6 +4,7 @@ pub mod Pieces
 pub mod Sealed
 pub mod Scanning
 pub mod RowsRecords
+pub mod RowsInside
 pub mod CheckRecords
 pub mod CheckRuns
 pub mod Prelude

@@ -4,6 +4,6 @@ pub use Rattle.meta_log.specs.Records.{head_of, record_head, record_bytes, recor
 pub use Rattle.meta_log.specs.Pieces.{piece_count, given_from, piece_first, piece_units, LiesInRecord, IsInPiece}
 pub use Rattle.meta_log.specs.Sealed.{Sealed, IsSealable, sealed_units, piece_bytes, IsSpelled}
 pub use Rattle.meta_log.specs.Scanning.{parts_bytes, BeginsWithParts, IsCut, IsAtFront, BeginsNoRecord, TakesUnits, units_of_records}
-pub use Rattle.meta_log.specs.RowsRecords.{body_before, body_summed, IsRecordOf, IsOneOn}
+pub use Rattle.meta_log.specs.RowsRecords.{TableRecord, sealed_of, body_before, body_summed}
 pub use Rattle.meta_log.specs.CheckRecords.{one_record, check_records, check_units}
-pub use Rattle.meta_log.specs.CheckRuns.{in_run, in_runs, record_runs, cut_run, zero_runs, check_runs}
+pub use Rattle.meta_log.specs.CheckRuns.{in_run, in_runs, AreRunsFrom, front_run, record_runs, cut_run, zero_runs, check_runs, IsZeroRun}

@@ -1,11 +1,22 @@
--- The record that sets each row of a table, while its pieces are made.
-use Rattle.std.specs.Prelude.{◌≡◌, ℕ, ◌+◌, ◌-◌, ◌*◌, ◌++◌, min, length, take}
-use Rattle.crc32c_csum.specs.Prelude.{all_ones, remainder}
-use Rattle.meta_rows.specs.Prelude.{Rows, ops_bytes, row_sets, bytes_before}
-use Rattle.meta_log.specs.Records.{record_head, unit_count}
-use Rattle.meta_log.specs.Pieces.{given_from}
-use Rattle.meta_log.specs.Sealed.{IsSealable}
-use Rattle.meta_log.specs.declared.rows_record.RowsRecord.{RowsRecord}
+-- The record that sets each row of a table, while its pieces are made: what its caller sees, and where its parts lie.
+use Rattle.std.specs.Prelude.{ℕ, ◌-◌, ◌*◌, min}
+use Rattle.std.specs.FinMap as map
+use Rattle.std.specs.Coded.{Coded, coded_ℕ, coded_list}
+use Rattle.meta_rows.specs.Prelude.{Rows, row_sets}
+use Rattle.meta_log.specs.Sealed.{Sealed}
+
+-- the rows that the record sets, its number, and how many of its pieces were given
+pub record TableRecord : Type 0 where
+  pub rows : Rows
+  pub number : ℕ
+  pub given : ℕ
+
+abbrev pub coded_rows : Coded Rows
+coded_rows = map.code (coded_list coded_ℕ) (coded_list coded_ℕ)
+
+-- the record as one of operations
+abbrev pub sealed_of : TableRecord → Sealed
+sealed_of r = record { number = r.number; ops = row_sets r.rows }
 
 -- how many bytes of a body, of so many, lie before a unit of its record
 abbrev pub body_before : ℕ → ℕ → ℕ
@@ -14,19 +25,3 @@ body_before size unit = min size (4096 * unit - 24)
 -- how many of them the checksum goes over once so many pieces were given
 abbrev pub body_summed : ℕ → ℕ → ℕ
 body_summed size given = min size (262144 * given)
-
--- The record of these rows. The bytes of the body behind `front` were given; those before `summed` are in the checksum.
-pub record IsRecordOf (rows : Rows) (r : RowsRecord) : Type 0 where
-  pub sealable : IsSealable r.number (row_sets rows)
-  pub count : r.count ≡ length (row_sets rows)
-  pub size : r.size ≡ length (ops_bytes (row_sets rows))
-  pub units : r.units ≡ unit_count r.number (row_sets rows)
-  pub front : bytes_before rows r.front ≡ body_before r.size (given_from r.units r.given)
-  pub summed : bytes_before rows r.summed ≡ body_summed r.size r.given
-  pub digest : r.digest ≡ remainder all_ones (record_head r.number (row_sets rows) ++ take (body_summed r.size r.given) (ops_bytes (row_sets rows)))
-
--- the same record, of which one piece more was given
-pub record IsOneOn (old new : RowsRecord) : Type 0 where
-  pub number : new.number ≡ old.number
-  pub units : new.units ≡ old.units
-  pub given : new.given ≡ old.given + 1

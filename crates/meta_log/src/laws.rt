@@ -1,14 +1,16 @@
 //! What the definitions of slots and records come to.
 
-ghost use Rattle.std.specs.Prelude.{◌≡◌, ℕ, ◌-◌, ◌<◌, ◌≤◌, List, [], ◌∷◌, ◌++◌};
+ghost use Rattle.std.specs.Prelude.{◌≡◌, ℕ, ◌-◌, ◌<◌, ◌≤◌, List, [], ◌∷◌, ◌++◌, Some, slice_get};
 ghost use Rattle.std.specs.FinMap as map;
 ghost use Rattle.meta_rows.specs.Prelude.{Rows, rows_after, rows_of_records};
 ghost use Rattle.meta_rows.specs.declared.row_op.RowOp.{RowOp};
 ghost use Rattle.meta_log.specs.Slots.{IsValidSlot, IsActiveSlot};
 ghost use Rattle.meta_log.specs.Records.{AreRecords, AreRowsOf, active_half, unit_count};
-ghost use Rattle.meta_log.specs.Pieces.{piece_count, given_from, piece_first, LiesInRecord, IsInPiece};
+ghost use Rattle.meta_log.specs.Pieces.{piece_count, given_from, piece_first, piece_units, LiesInRecord, IsInPiece};
+ghost use Rattle.meta_log.specs.CheckRuns.{AreRunsFrom, check_runs, IsZeroRun};
 ghost use Rattle.meta_log.specs.Sealed.{IsSealable};
 ghost use Rattle.meta_log.specs.Scanning.{IsLogOf};
+ghost use Rattle.meta_log.specs.declared.runs.UnitRun.{UnitRun};
 ghost use Rattle.meta_log.specs.declared.scanning.FoundLog.{FoundLog};
 ghost use Rattle.meta_log.specs.declared.slot.Super.{Super};
 
@@ -61,4 +63,12 @@ pub fn each_unit_in_one_piece()
 /// The piece that is written last has the head of the record.
 pub fn last_piece_has_the_head()
     ensures { (units : ℕ) → piece_first units (piece_count units - 1) ≡ 0 }
+{}
+
+/// The pieces of a checkpoint: the first are those of its record, and the others lie behind it. None is empty or of more than 64 units.
+pub fn pieces_of_a_checkpoint()
+    ensures first { (units k : ℕ) (stale : List UnitRun) → k < piece_count units →
+        slice_get (check_runs units stale) k ≡ Some (record { first = piece_first units k; count = piece_units units k }) }
+    ensures others { (units half k : ℕ) (stale : List UnitRun) (r : UnitRun) → AreRunsFrom 0 half stale → piece_count units ≤ k →
+        slice_get (check_runs units stale) k ≡ Some r → IsZeroRun units half r }
 {}

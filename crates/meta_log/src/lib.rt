@@ -17,10 +17,10 @@ mod slot;
 pub use laws::{
     each_unit_in_one_piece, found_records_make_the_rows, last_piece_has_the_head, one_active_slot,
     one_list_of_records, one_more_record, one_super_in_a_slot, pieces_lie_in_a_row,
-    units_of_a_record,
+    pieces_of_a_checkpoint, units_of_a_record,
 };
 pub use rows_record::{RowsPiece, RowsRecord};
-pub use runs::UnitRun;
+pub use runs::{UnitRun, check_runs};
 pub use scanning::{FoundLog, FoundRecord, read_record, record_units, scan};
 pub use sealed::SealedRecord;
 pub use slot::Super;

@@ -6,30 +6,32 @@
 //! the body is spelled twice, and a piece costs what it is long, however many rows there are.
 //!
 //! The table is given again with each call, and must have the same rows.
-ghost use Rattle.std.specs.Prelude.{◌≡◌, ℕ, ◌+◌, ◌*◌, ◌^◌, ◌<◌, ◌≤◌, ◌++◌, take, drop, bit_xor, IfOk};
+ghost use Rattle.std.specs.Prelude.{◌≡◌, ◌+◌, ◌*◌, ◌^◌, ◌<◌, ◌≤◌, ◌++◌, take, drop, bit_xor, IfOk};
 ghost use Rattle.std.specs.Int.{w32, to_le_bytes};
 ghost use Rattle.byte_maps.specs.Units.{units_from};
 ghost use Rattle.crc32c_csum.specs.Prelude.{all_ones, remainder};
 ghost use Rattle.meta_rows.specs.Prelude.{ops_bytes, row_sets, bytes_before};
 ghost use Rattle.meta_log.specs.Records.{head_of, record_head, record_bytes, record_units};
 ghost use Rattle.meta_log.specs.Pieces.{piece_count, given_from, piece_first, piece_units};
-ghost use Rattle.meta_log.specs.Sealed.{IsSealable, piece_bytes};
-ghost use Rattle.meta_log.specs.RowsRecords.{body_before, body_summed, IsRecordOf, IsOneOn};
+ghost use Rattle.meta_log.specs.Sealed.{IsSealable, sealed_units, piece_bytes};
+ghost use Rattle.meta_log.specs.RowsRecords.{body_before, body_summed, sealed_of};
+ghost use Rattle.meta_log.specs.RowsInside.{IsRecordOf, IsOneOn};
 
 use crate::sealed::{HEAD_BYTES, push_head, units_of};
 use crc32c_csum::Digest;
 use meta_rows::{RowCursor, RowTable};
 use std::alloc::{AllocError, Global};
+use std::marker::Model;
+use std::snapshot::Snapshot;
 use unit_fields::limits::{PIECE_UNITS, UNIT_BYTES};
 use unit_fields::push_u32_le;
 
 // The most bytes of a piece.
 const PIECE_BYTES: usize = PIECE_UNITS as usize * UNIT_BYTES;
 
-/// The record that sets each row of a table, and how far its pieces were given. (Ceph: RocksDB's flush of a memtable, after which it needs
-/// the older log no more.)
+// What is kept of the record of a table's rows from piece to piece.
 #[derive(Drop)]
-pub struct RowsRecord {
+struct Progress {
     number: u64,
     // The operations, one for each row.
     count: u32,
@@ -42,6 +44,29 @@ pub struct RowsRecord {
     // How far the checksum goes.
     summed: RowCursor,
     digest: Digest,
+}
+
+/// The record that sets each row of a table, and how far its pieces were given. It is seen as the rows, its number, and the count of those
+/// pieces; a run keeps nothing of the table. (Ceph: RocksDB's flush of a memtable, after which it needs the older log no more.)
+#[derive(Drop)]
+pub struct RowsRecord {
+    progress: Progress,
+    table: Snapshot<RowTable>,
+}
+
+impl Model for RowsRecord {
+    ghost use Rattle.std.specs.Coded.{codes};
+    ghost use Rattle.meta_log.specs.RowsRecords.{TableRecord, coded_rows};
+
+    ghost Value = { TableRecord };
+
+    ghost coded = { Prim.hlevel (codes, coded_rows) };
+
+    ghost use Rattle.meta_log.specs.RowsInside.{IsRecordOf};
+
+    ghost view = { λ a. record { rows = a.table.value.rows; number = a.progress.number; given = a.progress.given } };
+
+    ghost invariant = { λ a. IsRecordOf a.table.value.rows a.progress };
 }
 
 /// A piece of such a record: its first unit within the record, its bytes, and the record once the piece is given.
@@ -63,9 +88,9 @@ fn head_digest(alloc: Global, number: u64, count: u32, size: u32) -> Result<Dige
     Ok(digest)
 }
 
-impl RowsRecord {
-    /// The record of a table's rows under this number, before its first piece.
-    pub fn begin(alloc: Global, number: u64, rows: &RowTable) -> Result<RowsRecord, AllocError>
+impl Progress {
+    // The record of a table's rows under this number, before its first piece.
+    fn begin(alloc: Global, number: u64, rows: &RowTable) -> Result<Progress, AllocError>
         requires { IsSealable number (row_sets rows.now.rows) }
         ensures record { IfOk result (IsRecordOf rows.now.rows) }
         ensures begins { IfOk result (λ r. (r.number ≡ number) × (r.given ≡ 0)) }
@@ -73,7 +98,7 @@ impl RowsRecord {
         let count = rows.len() as u32;
         let size = rows.size() as usize;
         let digest = head_digest(alloc, number, count, size as u32)?;
-        Ok(RowsRecord {
+        Ok(Progress {
             number,
             count,
             size,
@@ -85,29 +110,8 @@ impl RowsRecord {
         })
     }
 
-    /// Its number.
-    pub fn number(&self) -> u64
-        ensures { result ≡ self.now.number }
-    {
-        self.number
-    }
-
-    /// The units that it takes in the log, at least one.
-    pub fn units(&self) -> u32
-        ensures { result ≡ self.now.units }
-    {
-        self.units
-    }
-
-    /// How many pieces were given.
-    pub fn given(&self) -> u32
-        ensures { result ≡ self.now.given }
-    {
-        self.given
-    }
-
-    /// How many pieces it is written in, at least one.
-    pub fn pieces(&self) -> u32
+    // How many pieces it is written in.
+    fn pieces(&self) -> u32
         ensures { result ≡ piece_count self.now.units }
     {
         (self.units / PIECE_UNITS) + u32::from(self.units % PIECE_UNITS != 0)
@@ -159,7 +163,7 @@ impl RowsRecord {
         rows: &RowTable,
         first: u32,
         count: u32,
-    ) -> Result<RowsRecord, AllocError>
+    ) -> Result<Progress, AllocError>
         requires record { IsRecordOf rows.now.rows self.now }
         requires left { self.now.given < piece_count self.now.units }
         requires first { first ≡ piece_first self.now.units self.now.given }
@@ -170,7 +174,7 @@ impl RowsRecord {
         let (summed, digest) = self.sum_on(alloc, rows)?;
         let size = self.body_before(first + count) - self.body_before(first);
         let front = rows.before(alloc, &self.front, size)?;
-        Ok(RowsRecord {
+        Ok(Progress {
             number: self.number,
             count: self.count,
             size: self.size,
@@ -239,23 +243,80 @@ impl RowsRecord {
         Ok(bytes)
     }
 
-    /// The next piece, by the cut of a `SealedRecord`. It isn't given yet: the record stays as it is, and the one that comes with the piece
-    /// takes its place once the device took the bytes. So want of memory leaves all as it was.
-    pub fn piece(&self, alloc: Global, rows: &RowTable) -> Result<RowsPiece, AllocError>
+    // The next piece: its first unit, its bytes, and the record once it is given.
+    fn piece(&self, alloc: Global, rows: &RowTable) -> Result<(u32, Vec<u8>, Progress), AllocError>
         requires record { IsRecordOf rows.now.rows self.now }
         requires left { self.now.given < piece_count self.now.units }
-        ensures first { IfOk result (λ piece. piece.first ≡ piece_first self.now.units self.now.given) }
-        ensures bytes { IfOk result (λ piece. piece.bytes.items ≡ piece_bytes (record {
+        ensures first { IfOk result (λ piece. piece.0 ≡ piece_first self.now.units self.now.given) }
+        ensures bytes { IfOk result (λ piece. piece.1.items ≡ piece_bytes (record {
           number = self.now.number;
           ops = row_sets rows.now.rows;
         }) self.now.given) }
-        ensures record { IfOk result (λ piece. IsRecordOf rows.now.rows piece.then) }
-        ensures on { IfOk result (λ piece. IsOneOn self.now piece.then) }
+        ensures record { IfOk result (λ piece. IsRecordOf rows.now.rows piece.2) }
+        ensures on { IfOk result (λ piece. IsOneOn self.now piece.2) }
     {
         let first = self.first();
         let count = PIECE_UNITS.min(self.units - first);
         let then = self.one_on(alloc, rows, first, count)?;
         let bytes = then.spelled(alloc, rows, first, count)?;
+        Ok((first, bytes, then))
+    }
+}
+
+impl RowsRecord {
+    /// The record of a table's rows under this number, before its first piece.
+    pub fn begin(alloc: Global, number: u64, rows: &RowTable) -> Result<RowsRecord, AllocError>
+        requires { IsSealable number (row_sets rows.now.rows) }
+        ensures { IfOk result (λ r. r ≡ record { rows = rows.now.rows; number = number; given = 0 }) }
+    {
+        Ok(RowsRecord {
+            progress: Progress::begin(alloc, number, rows)?,
+            table: Snapshot::of(rows),
+        })
+    }
+
+    /// Its number.
+    pub fn number(&self) -> u64
+        ensures { result ≡ self.now.number }
+    {
+        self.progress.number
+    }
+
+    /// The units that it takes in the log, at least one.
+    pub fn units(&self) -> u32
+        ensures { result ≡ sealed_units (sealed_of self.now) }
+    {
+        self.progress.units
+    }
+
+    /// How many pieces were given.
+    pub fn given(&self) -> u32
+        ensures { result ≡ self.now.given }
+    {
+        self.progress.given
+    }
+
+    /// How many pieces it is written in, at least one.
+    pub fn pieces(&self) -> u32
+        ensures { result ≡ piece_count (sealed_units (sealed_of self.now)) }
+    {
+        self.progress.pieces()
+    }
+
+    /// The next piece, by the cut of a `SealedRecord`, from a table with the record's rows. It isn't given yet: the record stays as it is,
+    /// and the one that comes with the piece takes its place once the device took the bytes. So want of memory leaves all as it was.
+    pub fn piece(&self, alloc: Global, rows: &RowTable) -> Result<RowsPiece, AllocError>
+        requires same { rows.now.rows ≡ self.now.rows }
+        requires left { self.now.given < piece_count (sealed_units (sealed_of self.now)) }
+        ensures first { IfOk result (λ piece. piece.first ≡ piece_first (sealed_units (sealed_of self.now)) self.now.given) }
+        ensures bytes { IfOk result (λ piece. piece.bytes.items ≡ piece_bytes (sealed_of self.now) self.now.given) }
+        ensures on { IfOk result (λ piece. piece.then ≡ record self.now { given = self.now.given + 1 }) }
+    {
+        let (first, bytes, progress) = self.progress.piece(alloc, rows)?;
+        let then = RowsRecord {
+            progress,
+            table: Snapshot::of(rows),
+        };
         Ok(RowsPiece { first, bytes, then })
     }
 }

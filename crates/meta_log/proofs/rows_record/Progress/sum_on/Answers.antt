@@ -4,7 +4,7 @@ use Rattle.meta_rows.specs.Prelude.{ops_bytes, row_sets}
 use Rattle.meta_rows.proofs.SetLemmas.{row_sets_size}
 use Rattle.meta_log.specs.Prelude.{record_head, body_summed}
 use Rattle.meta_log.proofs.RowsLemmas.{rows_below, summed_more, sum_more}
-use Rattle.meta_log.proofs.rows_record.RowsRecord.sum_on.Goals as goal
+use Rattle.meta_log.proofs.rows_record.Progress.sum_on.Goals as goal
 
 pub behind-requires-clause-size : goal.behind-requires-clause-size
 behind-requires-clause-size c = omega (arith, rows_below c.args.rows.now.rows c.args.self.now.number c.requires.record.sealable)

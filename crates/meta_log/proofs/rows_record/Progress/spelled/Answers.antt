@@ -1,7 +1,7 @@
 use Rattle.std.proofs.Common.{◌*◌, arith}
 use Rattle.meta_rows.specs.Prelude.{row_sets}
 use Rattle.meta_log.proofs.RowsLemmas.{filled}
-use Rattle.meta_log.proofs.rows_record.RowsRecord.spelled.Goals as goal
+use Rattle.meta_log.proofs.rows_record.Progress.spelled.Goals as goal
 
 pub returns : goal.returns
 returns c =

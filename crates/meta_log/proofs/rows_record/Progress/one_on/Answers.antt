@@ -1,6 +1,6 @@
 use Rattle.meta_rows.specs.Prelude.{bytes_before}
 use Rattle.meta_log.proofs.RowsLemmas.{went_back}
-use Rattle.meta_log.proofs.rows_record.RowsRecord.one_on.Goals as goal
+use Rattle.meta_log.proofs.rows_record.Progress.one_on.Goals as goal
 
 pub returns-clause-record : goal.returns-clause-record
 returns-clause-record c =

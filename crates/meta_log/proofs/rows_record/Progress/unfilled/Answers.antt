@@ -8,7 +8,7 @@ use Rattle.meta_rows.specs.Prelude.{ops_bytes, row_sets}
 use Rattle.meta_log.specs.Prelude.{head_of, record_head, record_bytes, body_before, body_summed}
 use Rattle.meta_log.proofs.SealLemmas.{length-record_bytes}
 use Rattle.meta_log.proofs.RowsLemmas.{all_summed, sum_whole, first_part, later_part}
-use Rattle.meta_log.proofs.rows_record.RowsRecord.unfilled.Goals as goal
+use Rattle.meta_log.proofs.rows_record.Progress.unfilled.Goals as goal
 
 pub returns-then-first-eq0 : goal.returns-then-first-eq0
 returns-then-first-eq0 c =

@@ -7,7 +7,7 @@ use Rattle.meta_log.specs.Prelude.{head_of, record_head}
 use Rattle.meta_log.proofs.RecordLemmas.{count_below}
 use Rattle.meta_log.proofs.SealLemmas.{length-record_bytes}
 use Rattle.meta_log.proofs.RowsLemmas.{rows_below, none_given, none_summed}
-use Rattle.meta_log.proofs.rows_record.RowsRecord.begin.Goals as goal
+use Rattle.meta_log.proofs.rows_record.Progress.begin.Goals as goal
 
 pub len-count-requires : goal.len-count-requires
 len-count-requires c = omega (arith, rows_below c.args.rows.now.rows c.args.number c.requires)

@@ -1,8 +1,9 @@
 //! What a superblock slot says, and its one spelling.
-ghost use Rattle.std.specs.Prelude.{◌≡◌, ◌≢◌, ◌↔◌, ◌<◌, ◌++◌, ℕ, List, length, IsTrue, IfOk, OnOk, MatchOption};
+ghost use Rattle.std.specs.Prelude.{◌≡◌, ◌≢◌, ◌↔◌, ◌<◌, ◌^◌, ◌++◌, ℕ, List, length, IsTrue, IfOk, OnOk, MatchOption};
 ghost use Rattle.byte_maps.specs.Units.{zeros};
 ghost use Rattle.meta_log.specs.declared.slot.Super.{Super};
 ghost use Rattle.meta_log.specs.Slots.{version_bytes, field_bytes, super_front, super_bytes, width_of, active_unit, IsSummed, IsSuper, IsSlotOf};
+ghost use Rattle.meta_log.specs.Slots.{other_slot, other_unit, next_super};
 
 use byte_maps::is_zero;
 use crc32c_csum::crc32c;
@@ -114,6 +115,33 @@ impl Super {
         ensures { result ≡ active_unit self.now }
     {
         2 + self.half * (self.epoch % 2) as u32
+    }
+
+    /// The number of the slot that isn't in use.
+    pub fn other_slot(&self) -> u32
+        ensures { result ≡ other_slot self.now }
+    {
+        1 - (self.epoch % 2) as u32
+    }
+
+    /// The first unit of the half of the log that isn't in use.
+    pub fn other_unit(&self) -> u32
+        requires { IsSuper self.now }
+        ensures { result ≡ other_unit self.now }
+    {
+        2 + self.half * self.other_slot()
+    }
+
+    /// The superblock that comes with a checkpoint whose first record has this number: that of the other slot and the other half.
+    pub fn next(&self, number: u64) -> Super
+        requires { self.now.epoch < 2 ^ 62 }
+        ensures { result ≡ next_super self.now number }
+    {
+        Super {
+            epoch: self.epoch + 1,
+            first: number,
+            ..*self
+        }
     }
 
     fn front(&self, alloc: Global) -> Result<Vec<u8>, AllocError>

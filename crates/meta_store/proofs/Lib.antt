@@ -1,1 +1,4 @@
 pub mod StoreLemmas
+pub mod CheckLemmas
+pub mod HoldsLemmas
+pub mod PieceLemmas

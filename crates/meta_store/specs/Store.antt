@@ -1,13 +1,13 @@
 -- The rows and where the log stands, as one value.
-use Rattle.std.specs.Prelude.{◌≡◌, ℕ, ◌+◌, ◌-◌, ◌*◌, ◌%◌, ◌<◌, ◌≤◌, List, length, Option, Some, None, IfSome, MatchOption}
+use Rattle.std.specs.Prelude.{◌≡◌, ℕ, ◌+◌, ◌-◌, ◌*◌, ◌%◌, ◌<◌, ◌≤◌, List, length, Option, Some, None, IfSome, OnSome, MatchOption}
 use Rattle.std.specs.Option.{option_map}
 use Rattle.std.specs.FinMap as map
 use Rattle.std.specs.Coded.{Coded, coded_ℕ, coded_list}
 use Rattle.meta_rows.specs.declared.row_op.RowOp.{RowOp}
-use Rattle.meta_rows.specs.Prelude.{Rows, rows_after}
+use Rattle.meta_rows.specs.Prelude.{Rows, rows_after, row_sets, RowsFit}
 use Rattle.meta_log.specs.declared.slot.Super.{Super}
 use Rattle.meta_log.specs.declared.runs.UnitRun.{UnitRun}
-use Rattle.meta_log.specs.Prelude.{unit_count, piece_count, piece_first, IsSealable, piece_bytes, IsSuper, active_unit, data_unit}
+use Rattle.meta_log.specs.Prelude.{unit_count, piece_count, piece_first, IsSealable, piece_bytes, IsSuper, active_unit, data_unit, next_super, check_units, check_runs, AreRunsFrom}
 
 -- a record that is being written: its operations, and how many of its pieces were given and how many of these are written
 pub record Begun : Type 0 where
@@ -47,11 +47,27 @@ pub record IsBegun (half tail number : ℕ) (b : Begun) : Type 0 where
   pub given_most : b.given ≤ piece_count (unit_count number b.ops)
   pub written_most : b.written ≤ b.given
 
--- what is known of every store
+-- the pieces of a checkpoint of these rows under this number, where these runs of the other half are stale
+abbrev pub check_pieces : ℕ → Rows → List UnitRun → List UnitRun
+check_pieces number rows stale = check_runs (check_units number rows) stale
+
+-- what is known of a checkpoint that is being written
+pub record IsChecking (sup : Super) (number : ℕ) (rows : Rows) (stale : List UnitRun) (c : Checking) : Type 0 where
+  pub next_limits : IsSuper (next_super sup number)
+  pub sealable : IsSealable number (row_sets rows)
+  pub fits : check_units number rows ≤ sup.half
+  pub given_most : c.given ≤ length (check_pieces number rows stale)
+  pub written_most : c.written ≤ c.given
+
+-- What is known of every store. A record and a checkpoint aren't written at once.
 pub record IsMeta (m : Meta) : Type 0 where
   pub limits : IsSuper m.sup
+  pub rows_fit : RowsFit m.rows
   pub tail_most : m.tail ≤ m.sup.half
   pub begun_fits : IfSome m.begun (IsBegun m.sup.half m.tail m.number)
+  pub stale_fits : AreRunsFrom 0 m.sup.half m.stale
+  pub check_fits : IfSome m.check (IsChecking m.sup m.number m.rows m.stale)
+  pub alone : OnSome m.begun (m.check ≡ None)
 
 -- a store with these rows, units of records and stale units, where nothing is set aside, and neither record nor checkpoint is begun
 abbrev pub found_meta : Super → Rows → ℕ → ℕ → List UnitRun → Meta

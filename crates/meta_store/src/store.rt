@@ -3,10 +3,14 @@
 //! The room of the record's rows is made where the record is sealed and begun, in one step. (Ceph's batch is handed to the log at once
 //! too.)
 ghost use Rattle.std.specs.Prelude.{◌≡◌, ◌↔◌, ◌+◌, ◌-◌, ◌<◌, ◌≤◌, None, IsTrue, IfOk, IfErr, IfSome, OnOk, OnErr, OnSome, MatchOption};
-ghost use Rattle.meta_log.specs.Prelude.{IsSuper, active_unit, sealed_units};
+ghost use Rattle.meta_rows.specs.Sets.{RowsFit};
+ghost use Rattle.meta_log.specs.Prelude.{IsSuper, active_unit, sealed_units, AreRunsFrom};
 ghost use Rattle.meta_store.specs.Store.{IsMeta, found_meta, room_of, with_begun, with_given, with_written, after_flush};
 ghost use Rattle.meta_store.specs.Store.{IsAllGiven, IsPieceLeft, IsPieceOut, IsAllWritten, IsNextPiece, LiesBehindTail};
 
+mod checking;
+
+use crate::check::OpenCheck;
 use crate::full::MetaFull;
 use meta_log::{SealedRecord, Super, UnitRun};
 use meta_rows::RowTable;
@@ -23,7 +27,8 @@ struct BegunRecord {
 }
 
 /// The committed rows of a store, and where its log stands. It is seen as the superblock, the rows, the tail (the units of the records in the
-/// active half), the next record's number, the units set aside, and the record that is being written, with the pieces given and written.
+/// active half), the next record's number, the units set aside, the record that is being written, with the pieces given and written, the stale
+/// units of the other half, and the checkpoint that is being written there.
 #[derive(Drop)]
 pub struct MetaStore {
     sup: Super,
@@ -33,6 +38,7 @@ pub struct MetaStore {
     reserved: u32,
     begun: Option<BegunRecord>,
     stale: Vec<UnitRun>,
+    check: Option<OpenCheck>,
 }
 
 impl Model for MetaStore {
@@ -52,7 +58,8 @@ impl Model for MetaStore {
 
 impl MetaStore {
     /// The store of this superblock with the rows that its log was found to make, the units that its records take, and the number of
-    /// the next one. `stale` are the units of the other half that may not be zero. Nothing is set aside, and no record is begun.
+    /// the next one. `stale` are the units of the other half that may not be zero. Nothing is set aside, and neither a record nor a
+    /// checkpoint is begun.
     pub fn open(
         sup: &Super,
         rows: RowTable,
@@ -61,7 +68,9 @@ impl MetaStore {
         stale: Vec<UnitRun>,
     ) -> MetaStore
         requires limits { IsSuper sup.now }
+        requires fit { RowsFit rows.rows }
         requires tail { tail ≤ sup.now.half }
+        requires stale { AreRunsFrom 0 sup.now.half stale.items }
         ensures { result ≡ found_meta sup.now rows.rows tail number stale.items }
     {
         MetaStore {
@@ -72,6 +81,7 @@ impl MetaStore {
             reserved: 0,
             begun: None,
             stale,
+            check: None,
         }
     }
 
@@ -145,8 +155,8 @@ impl MetaStore {
         self.begun.is_none()
     }
 
-    /// Begins to write a record behind the tail, and makes the room in the rows that its operations take. Where memory runs out the
-    /// record comes back. (Ceph: a synchronous submission of a write batch to RocksDB.)
+    /// Begins to write a record behind the tail, and makes the room in the rows that its operations take. Where memory runs out, or a
+    /// checkpoint is being written, the record comes back. (Ceph: a synchronous submission of a write batch to RocksDB.)
     pub fn begin(&mut self, sealed: SealedRecord) -> Result<(), AllocFailed<SealedRecord>>
         requires idle { self.old.begun ≡ None }
         requires next { sealed.number ≡ self.old.number }
@@ -156,6 +166,9 @@ impl MetaStore {
         ensures back { IfErr result (λ failed. failed.value ≡ sealed) }
     {
         let _units = sealed.units();
+        if self.check.is_some() {
+            return Err(AllocFailed { value: sealed });
+        }
         match self.rows.reserve(sealed.ops().len()) {
             Ok(()) => {
                 self.begun = Some(BegunRecord {

@@ -20,6 +20,7 @@ use Rattle.log_replay.specs.declared.half_reader.HalfReader.{HalfReader}
 use Rattle.log_replay.specs.declared.replaying.Replayed.{Replayed}
 use Rattle.log_replay.proofs.OpeningLemmas.{seen, about_all, about_both, with_size}
 use Rattle.log_replay.proofs.ReplayLemmas.{ReplayedSoFar, replayed_none, replayed_more, replayed_all, replay_within}
+use Rattle.log_replay.proofs.ReplayFit.{replay_fit}
 
 -- ---- units that were read
 
@@ -393,6 +394,7 @@ found_on d s at place limits units active read =
       units_are = units;
       tail = omega (arith, here.replay.within, here.size);
       within = replay_within here.half s.sup.first s.log.rows.rows s.log.tail s.log.number here.replay;
+      fit = replay_fit here.half s.sup.first s.log.rows.rows s.log.tail s.log.number here.replay;
       half = here.half;
       stale = subst (λ (n : ℕ). AreNotZero (first_behind s) n (rest_of here.half s) s.stale.items) many here.stale;
       about = about_both d (λ contents. IsActiveSlot contents s.sup) (λ contents. here.half ≡ units_from (active_unit s.sup) s.sup.half contents)

@@ -11,6 +11,8 @@ pub mod GatherLemmas
 pub mod PresortLemmas
 pub mod ReplayLemmas
 pub mod HalfLemmas
+pub mod OtherHalfLemmas
+pub mod ReplayFit
 pub mod SplitLemmas
 pub mod NewSpace
 pub mod JudgeLemmas

@@ -1,6 +1,7 @@
 -- The store that is found on a device, as the code has it.
 use Rattle.std.specs.Prelude.{◌≡◌, ◌≤◌, ℕ, ◌+◌, ◌-◌, ◌*◌, List, [], drop}
 use Rattle.block_device.specs.Prelude.{Disk, History}
+use Rattle.meta_rows.specs.Prelude.{RowsFit}
 use Rattle.meta_log.specs.Prelude.{active_half, IsSuper, active_unit}
 use Rattle.unit_allocator.specs.Prelude.{Space}
 use Rattle.store_steps.specs.Prelude.{Found, HoldsAreCounted, rows_units}
@@ -29,13 +30,14 @@ rest_of half s = drop (4096 * s.log.tail) half
 abbrev pub AreStaleOf : List ℕ → FoundStore → Type 0
 AreStaleOf half s = AreNotZero (first_behind s) (half_end s - first_behind s) (rest_of half s) s.stale.items
 
--- It fits the device, and its rows as one record take no more units than its records do; and where nothing was dirty it is what the contents
--- hold, down to the units behind its records that aren't zero.
+-- It fits the device, and its rows as one record have a spelling and take no more units than its records do; and where nothing was dirty it is
+-- what the contents hold, down to the units behind its records that aren't zero.
 pub record IsFoundOn (d : Disk) (s : FoundStore) : Type 0 where
   pub limits : IsSuper s.sup
   pub units_are : s.sup.units ≡ d.units
   pub tail : s.log.tail ≤ s.sup.half
   pub within : rows_units s.log.rows.rows ≤ s.log.tail
+  pub fit : RowsFit s.log.rows.rows
   pub half : List ℕ
   pub stale : AreStaleOf half s
   pub about : IsAbout d (λ contents. IsFoundIn contents (as_found s) × (half ≡ active_half contents s.sup))

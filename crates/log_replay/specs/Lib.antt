@@ -9,5 +9,6 @@ pub mod Gathering
 pub mod Made
 pub mod Opening
 pub mod HalfReading
+pub mod OtherHalf
 pub mod FoundOn
 pub mod Prelude

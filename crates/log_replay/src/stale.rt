@@ -12,7 +12,8 @@ use std::alloc::{AllocError, Global};
 /// The most units of one read.
 const MOST_UNITS: u32 = 64;
 
-fn is_zero_unit(bytes: &[u8], k: usize) -> bool
+/// Whether unit k of the bytes is zero.
+pub fn is_zero_unit(bytes: &[u8], k: usize) -> bool
     requires { 4096 * k + 4096 ≤ length bytes.now }
     ensures { IsTrue result ↔ (unit_at k bytes.now ≡ zeros 4096) }
 {

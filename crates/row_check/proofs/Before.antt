@@ -1,5 +1,5 @@
 -- What the last row that was passed tells of the one that is looked at.
-use Rattle.std.proofs.Common.{◌≡◌, ℕ, ◌≤◌, List, [], Option, Some, None, MatchOption, refl, sym, ap, subst, ◌∙◌, ◌↔◌}
+use Rattle.std.proofs.Common.{◌≡◌, ℕ, ◌≤◌, List, [], Option, Some, None, true, MatchOption, refl, sym, ap, subst, ◌∙◌, ◌↔◌}
 use Rattle.std.specs.Prelude.{IsSome, IfSome}
 use Rattle.std.specs.List.{AllByRecursion}
 use Rattle.std.specs.FinMap as map
@@ -8,15 +8,15 @@ use Rattle.unit_fields.specs.Prelude.{IsName, IsCollName}
 use Rattle.meta_rows.specs.Prelude.{Rows}
 use Rattle.meta_log.specs.declared.slot.Super.{Super}
 use Rattle.meta_log.specs.Prelude.{width_of}
-use Rattle.row_format.specs.Prelude.{coll_key, onode_key, Extent, page_end, onode}
-use Rattle.store_image.specs.Prelude.{HasKey, HasRow, HasOnode, pages_of, HasObject, IsInPlace, IsShardInPlace}
+use Rattle.row_format.specs.Prelude.{coll_key, onode_key, Extent, page_end, onode, ExtentsAscend}
+use Rattle.store_image.specs.Prelude.{HasKey, HasRow, HasOnode, pages_of, HasObject, IsInPlace, IsShardInPlace, IsOnData}
 use Rattle.onode_codec.specs.Reading.{SpellsOnode}
 use Rattle.onode_codec.proofs.Again.{same_onode}
 use Rattle.row_reading.specs.declared.row.Row.{Row}
 use Rattle.row_reading.specs.declared.row.Row.TheVariants as read
 use Rattle.row_reading.specs.Reading.{row_of}
 use Rattle.row_check.specs.declared.passed.Passed.{Passed}
-use Rattle.row_check.specs.Bad.{IsFirst, IsLast, Knows, IsOfObject, IsPlacedOf, IsPlacedIn, IsOnodeOf, IsWithinOnode}
+use Rattle.row_check.specs.Bad.{IsFirst, IsLast, Knows, IsOfObject, IsPlacedOf, IsPlacedIn, IsOnodeOf, IsWithinOnode, ShardStands}
 
 module _ (s : Super) (rows : Rows) (Before : List ℕ → Type 0) where
   -- what is known of a last row
@@ -83,6 +83,26 @@ within_size rows c o size es has = (
   },
   λ is. is.within size has,
 )
+
+of_onode : (last : Option Row) (c o : List ℕ) (size : ℕ) → IsOnodeOf last c o size → IsOfObject last c o
+of_onode None c o size is = absurd is
+of_onode (Some (read.Collection d)) c o size is = absurd is
+of_onode (Some (read.Bitmap r bits)) c o size is = absurd is
+of_onode (Some (read.Shard d u first es)) c o size is = absurd is
+of_onode (Some (read.Attribute d u name)) c o size is = absurd is
+of_onode (Some (read.OmapHeader d u)) c o size is = absurd is
+of_onode (Some (read.OmapPair d u k)) c o size is = absurd is
+of_onode (Some (read.Onode d u own)) c o size is = (is.0, is.1)
+
+-- a shard behind its object's onode, which is in its place
+pub behind_onode : (s : Super) (rows : Rows) (p : Passed) (c o : List ℕ) (size : ℕ) (es : List Extent) → (IsPlacedIn p c → HasKey rows (coll_key c))
+    → p.in_place ≡ true → IsOnodeOf p.last c o size → HasOnode rows c o size → ExtentsAscend es → AllByRecursion (λ e. IsOnData s e.body) es
+    → AllByRecursion (λ e. page_end e ≤ pages_of size) es ↔ ShardStands s rows c o es
+behind_onode s rows p c o size es coll placed is has up on =
+    let by = within_size rows c o size es has in (
+      λ all. record { ascend = up; on_data = on; has_collection = coll (o, (placed, of_onode p.last c o size is)); within_onode = by.0 all },
+      λ stands. by.1 stands.within_onode,
+    )
 
 -- and within that which the value of the onode's row says
 pub within_found : (rows : Rows) (c o value : List ℕ) (es : List Extent) → IsCollName c → IsName o → map.get rows (onode_key c o) ≡ Some value

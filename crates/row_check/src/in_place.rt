@@ -232,7 +232,8 @@ fn are_within_object(
     }
 }
 
-// Whether the extents of a shard are in their place, where those of the object's earlier shards end before it.
+// Whether the extents of a shard are in their place, where those of the object's earlier shards end before it. Where the row before is the
+// object's onode, and in its place, the collection is there too.
 fn shard_stands(
     alloc: Global,
     sup: &Super,
@@ -248,10 +249,15 @@ fn shard_stands(
     requires before { (size : ℕ) → IsOnodeOf passed.now.last coll.now object.now size → HasOnode rows.now.rows coll.now object.now size }
     ensures { IfOk result (λ stands. IsTrue stands ↔ ShardStands sup.now rows.now.rows coll.now object.now extents.now) }
 {
-    if ascend(extents) && all_on_data(sup, extents) && has_collection(alloc, rows, passed, coll)? {
-        are_within_object(alloc, rows, passed, coll, object, extents)
-    } else {
-        Ok(false)
+    if !ascend(extents) || !all_on_data(sup, extents) {
+        return Ok(false);
+    }
+    match size_of(&passed.last, coll, object) {
+        Some(size) if passed.in_place => Ok(are_within_size(extents, size)),
+        _ => Ok(
+            has_collection(alloc, rows, passed, coll)?
+                && are_within_object(alloc, rows, passed, coll, object, extents)?,
+        ),
     }
 }
 

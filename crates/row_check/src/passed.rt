@@ -118,6 +118,6 @@ impl Passed {
     {
         self.end = self.end_with(&row);
         self.in_place = in_place;
-        drop(self.last.replace(row));
+        self.last = Some(row);
     }
 }

@@ -1,5 +1,5 @@
 //! A checkpoint of the rows, while its pieces are made.
-ghost use Rattle.std.specs.Prelude.{◌≡◌, ◌+◌, ◌^◌, ◌*◌, ◌<◌, nat_lt, All, IfOk, IfSome, if◌then◌else◌};
+ghost use Rattle.std.specs.Prelude.{◌≡◌, ◌+◌, ◌^◌, ◌*◌, ◌<◌, nat_lt, slice_get, All, IfOk, IfSome, if◌then◌else◌};
 ghost use Rattle.byte_maps.specs.Units.{zeros};
 ghost use Rattle.meta_rows.specs.Sets.{row_sets};
 ghost use Rattle.meta_log.specs.Prelude.{IsSealable, piece_count, sealed_units, sealed_of, front_run};
@@ -134,6 +134,13 @@ impl OpenCheck {
             given: 0,
             written: 0,
         })
+    }
+
+    /// The units of the next piece, if one is left.
+    pub fn next_run(&self) -> Option<UnitRun>
+        ensures { result ≡ slice_get self.now.pieces.items self.now.given }
+    {
+        self.pieces.get(self.given).copied()
     }
 
     /// What the switch of halves leaves: the units of the new log, and what is stale in the half that is left.

@@ -47,7 +47,7 @@ impl MetaStore {
         let Some(check) = &self.check else {
             return Ok(None);
         };
-        let Some(run) = check.pieces.get(check.given) else {
+        let Some(run) = check.next_run() else {
             return Ok(None);
         };
         let (bytes, left) = next_bytes(alloc, &check.left, &self.rows, run.count)?;

@@ -68,7 +68,7 @@ impl Gathered {
         }
     }
 
-    // Applies the operations on the bitmap that wait.
+    // Applies the operations on the bitmap that wait, as they stand: mostly each comes to the row of the one before.
     fn apply_bits(&mut self, alloc: Global) -> Result<(), AllocError>
         requires { IsParted self.old }
         ensures parted { OnOk result (IsParted self.new) }
@@ -76,7 +76,9 @@ impl Gathered {
         ensures none { OnOk result (self.new.bits.items ≡ []) }
     {
         let bits = replace(&mut self.bits, Vec::new(alloc));
-        self.rows.apply_all(alloc, bits)
+        self.rows.reserve(bits.len())?;
+        self.rows.apply(bits);
+        Ok(())
     }
 
     // The same where many wait.

@@ -220,14 +220,14 @@ impl HalfReader {
         }
     }
 
-    /// The units that aren't zero, of those that weren't passed over, ascending. The half is read to its end.
-    pub fn stale<D: Device>(&self, alloc: Global, dev: &mut D) -> Result<Vec<u32>, Failed>
+    /// The units that aren't zero, of those that weren't passed over, ascending. The half is read to its end, over the bytes that it held.
+    pub fn stale<D: Device>(self, alloc: Global, dev: &mut D) -> Result<Vec<u32>, Failed>
         requires sound { IsSound (D.disk dev.old) }
         requires idle { (D.disk dev.old).flights ≡ [] }
-        requires reader { IsReader self.now }
-        requires inside { self.now.end ≤ (D.disk dev.old).units }
+        requires reader { IsReader self }
+        requires inside { self.end ≤ (D.disk dev.old).units }
         ensures same { D.disk dev.new ≡ D.disk dev.old }
-        ensures stale { IfOk result (λ units. HasStale (D.disk dev.old) self.now units.items) }
+        ensures stale { IfOk result (λ units. HasStale (D.disk dev.old) self units.items) }
         ensures faults { D.faults dev.old ≤ D.faults dev.new }
         ensures cause { IsErrOf result Failed.Fault → Rose (D.faults dev.old) (D.faults dev.new) }
     {
@@ -236,7 +236,7 @@ impl HalfReader {
         let Ok(()) = add_stale(&mut units, self.at, count, self.left()) else {
             return Err(Failed::Memory);
         };
-        add_stale_between(alloc, dev, &mut units, self.next, self.end)?;
+        add_stale_between(dev, &mut units, self.next, self.end, self.bytes)?;
         Ok(units)
     }
 }

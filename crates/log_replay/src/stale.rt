@@ -35,13 +35,13 @@ pub fn add_stale(stale: &mut Vec<u32>, at: u32, count: u32, bytes: &[u8]) -> Res
     Ok(())
 }
 
-/// Adds the units from `first` to before `end` that aren't zero. They are read in pieces.
+/// Adds the units from `first` to before `end` that aren't zero. They are read in pieces, into this buffer.
 pub fn add_stale_between<D: Device>(
-    alloc: Global,
     dev: &mut D,
     stale: &mut Vec<u32>,
     first: u32,
     end: u32,
+    buffer: Vec<u8>,
 ) -> Result<(), Failed>
     requires idle { (D.disk dev.old).flights ≡ [] }
     requires order { first ≤ end }
@@ -52,7 +52,7 @@ pub fn add_stale_between<D: Device>(
     ensures faults { D.faults dev.old ≤ D.faults dev.new }
     ensures cause { IsErrOf result Failed.Fault → Rose (D.faults dev.old) (D.faults dev.new) }
 {
-    let mut bytes = Vec::new(alloc);
+    let mut bytes = buffer;
     let mut at = first;
     'pieces: while at < end {
         let count = (end - at).min(MOST_UNITS);
@@ -84,6 +84,6 @@ pub fn stale_units<D: Device>(alloc: Global, dev: &mut D, below: u32) -> Result<
     let Ok(mut stale) = slots(alloc) else {
         return Err(Failed::Memory);
     };
-    add_stale_between(alloc, dev, &mut stale, 2, below)?;
+    add_stale_between(dev, &mut stale, 2, below, Vec::new(alloc))?;
     Ok(stale)
 }

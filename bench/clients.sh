@@ -109,7 +109,8 @@ awk -v n="$count" -v many="$many" -v turns="$turns" -v disk="${made##*/}" -v mem
     wanted("64 clients against one", rate(64) / rate(1), 0.95, 0)
     wanted("64 clients against the plain loop", rate(64) / plain, 0.75, 0)
     wanted("processor time, 64 clients against one", more / one, 1.25, 1)
-    wanted("time without a wait against with one", without / each, 1.3, 1)
+    # Without a wait each write takes memory of its own; with one, that of the write before.
+    wanted("time without a wait against with one", without / each, 1.6, 1)
     wanted("peak memory of a transaction without a wait, in KiB", peak[memory " all"] / many, 12, 1)
     exit beyond
   }' "$made/times"

@@ -6,8 +6,8 @@ use Rattle.std.proofs.lemmas.Bool.{cases_lt, lt-ltb, le-ltb}
 use Rattle.byte_maps.specs.Units.{unit_at, zeros}
 use Rattle.block_device.specs.Prelude.{Disk, HasRead, IsSound}
 use Rattle.meta_log.specs.declared.runs.UnitRun.{UnitRun}
-use Rattle.meta_log.specs.Prelude.{in_run, in_runs}
-use Rattle.log_replay.specs.Prelude.{IsAbout, HasPiece, AreRunsFrom, AreZeroOutside, AreRunsOn, gathers, AreGathered, EndsLast, AddsUnit, AddsPiece, GathersBelow}
+use Rattle.meta_log.specs.Prelude.{in_run, in_runs, AreRunsFrom}
+use Rattle.log_replay.specs.Prelude.{IsAbout, HasPiece, AreZeroOutside, AreRunsOn, gathers, AreGathered, EndsLast, AddsUnit, AddsPiece, GathersBelow}
 use Rattle.log_replay.specs.declared.other_half.GatheredRuns.{GatheredRuns}
 use Rattle.log_replay.proofs.OpeningLemmas.{seen, about_both, about_all, about_more}
 

@@ -1,17 +1,11 @@
 -- The half of the log that isn't in use, as a mount reads it: which of its units aren't zero.
-use Rattle.std.specs.Prelude.{◌≡◌, ◌↔◌, ℕ, ◌+◌, ◌<◌, ◌≤◌, Bool, true, false, ◌||◌, List, [], ◌∷◌}
+use Rattle.std.specs.Prelude.{◌≡◌, ◌↔◌, ℕ, ◌+◌, ◌<◌, ◌≤◌, true, false, Bool, ◌||◌, List}
 use Rattle.byte_maps.specs.Units.{unit_at, zeros}
 use Rattle.block_device.specs.Prelude.{Disk}
 use Rattle.meta_log.specs.declared.runs.UnitRun.{UnitRun}
-use Rattle.meta_log.specs.Prelude.{in_run, in_runs}
+use Rattle.meta_log.specs.Prelude.{in_run, in_runs, AreRunsFrom}
 use Rattle.log_replay.specs.Opening.{IsAbout}
 use Rattle.log_replay.specs.declared.other_half.GatheredRuns.{GatheredRuns}
-
--- Runs that end within so many units, none of them empty: the first begins at or behind `from`, and each other one at or behind the end of the
--- one before.
-abbrev pub AreRunsFrom : ℕ → ℕ → List UnitRun → Type 0
-AreRunsFrom from count [] = Unit {0}
-AreRunsFrom from count (r ∷ rs) = (from ≤ r.first) × (0 < r.count) × (r.first + r.count ≤ count) × AreRunsFrom (r.first + r.count) count rs
 
 -- of so many units from one on exactly those in no run are zero
 abbrev pub AreZeroOutside : ℕ → ℕ → List UnitRun → List ℕ → Type 0

@@ -10,5 +10,5 @@ pub use Rattle.log_replay.specs.Gathering.{rows_so_far, is_bitmap_key, AreBits, 
 pub use Rattle.log_replay.specs.Made.{IsEmptyStore, HoldsEmptyStore}
 pub use Rattle.log_replay.specs.Opening.{IsAbout, HasNoSuper, newer_of, IsFoundIn, HasLowNumbers, AreUnmarkedIdle, AreUnmarkedFree, IsRefused, IsUnopenable, IsUnfound, FailsMount, SubmitsNothing}
 pub use Rattle.log_replay.specs.HalfReading.{HasPiece, AreUnits, left_of, IsReader, IsNew, Skips, ReadsOn, HasNoRecord, HoldsRecord, MayStand, AddsUnits, HasStale, HasReplayed, IsHalfRead}
-pub use Rattle.log_replay.specs.OtherHalf.{AreRunsFrom, AreZeroOutside, AreRunsOn, gathers, AreGathered, EndsLast, AddsUnit, AddsPiece, GathersBelow}
+pub use Rattle.log_replay.specs.OtherHalf.{AreZeroOutside, AreRunsOn, gathers, AreGathered, EndsLast, AddsUnit, AddsPiece, GathersBelow}
 pub use Rattle.log_replay.specs.FoundOn.{as_found, first_behind, half_end, rest_of, AreStaleOf, IsFoundOn, IsJudged, IsLogCleared, ClearsLog}

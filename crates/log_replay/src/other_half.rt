@@ -5,8 +5,8 @@
 ghost use Rattle.std.specs.Prelude.{◌≡◌, ◌≤◌, ◌<◌, ◌+◌, [], OnOk, IfOk, IsErrOf};
 ghost use Rattle.byte_maps.specs.Units.{IsUnits};
 ghost use Rattle.block_device.specs.Prelude.{Rose};
-ghost use Rattle.meta_log.specs.Prelude.{IsSuper, other_unit};
-ghost use Rattle.log_replay.specs.OtherHalf.{AreRunsFrom, AreRunsOn, AreGathered, EndsLast, AddsUnit, AddsPiece, GathersBelow};
+ghost use Rattle.meta_log.specs.Prelude.{IsSuper, other_unit, AreRunsFrom};
+ghost use Rattle.log_replay.specs.OtherHalf.{AreRunsOn, AreGathered, EndsLast, AddsUnit, AddsPiece, GathersBelow};
 ghost use Rattle.log_replay.specs.Opening.{IsAbout};
 
 use crate::stale::is_zero_unit;
@@ -132,14 +132,6 @@ pub fn stale_runs<D: Device>(
     Ok(runs.ended)
 }
 
-// The first unit of the half that isn't in use.
-fn other_unit(sup: &Super) -> u32
-    requires { IsSuper sup.now }
-    ensures { result ≡ other_unit sup.now }
-{
-    2 + sup.half * (1 - (sup.epoch % 2) as u32)
-}
-
 /// The runs of the units that aren't zero, of the half of the log that isn't in use. They are counted from its first unit on.
 pub fn other_runs<D: Device>(
     alloc: Global,
@@ -154,6 +146,5 @@ pub fn other_runs<D: Device>(
     ensures faults { D.faults dev.old ≤ D.faults dev.new }
     ensures cause { IsErrOf result Failed.Fault → Rose (D.faults dev.old) (D.faults dev.new) }
 {
-    let first = other_unit(sup);
-    stale_runs(alloc, dev, first, sup.half)
+    stale_runs(alloc, dev, sup.other_unit(), sup.half)
 }

@@ -48,11 +48,11 @@ fn record_of(alloc: Global, number: u64, rows: &RowTable) -> Result<Option<RowsR
 }
 
 // How many units the record takes, if there is one.
-fn units_of(record: &Option<RowsRecord>) -> u32
-    ensures { result ≡ units_left record.now }
+fn units_of(left: &Option<RowsRecord>) -> u32
+    ensures { result ≡ units_left left.now }
 {
-    match record {
-        Some(record) => record.units(),
+    match left {
+        Some(made) => made.units(),
         None => 0,
     }
 }

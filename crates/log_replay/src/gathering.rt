@@ -75,7 +75,7 @@ impl Gathered {
         ensures same { OnOk result (rows_so_far self.new ≡ rows_so_far self.old) }
         ensures none { OnOk result (self.new.bits.items ≡ []) }
     {
-        let bits = replace(&mut self.bits, Vec::new(alloc));
+        let bits = replace(&mut self.bits, Vec::with_capacity(alloc, MANY_BITS)?);
         self.rows.reserve(bits.len())?;
         self.rows.apply(bits);
         Ok(())

@@ -10,7 +10,7 @@ returns-clause-same c =
     let now = c.apply.new.self.rows in
     let others = old.others.items in
     let ops = c.replace-bits.result.items in
-    let none : c.replace-bits.new.dest.items ≡ [] = ap (λ v. v.items) c.replace-bits.ensures.after ∙ c.new.ensures.items in
+    let none : c.replace-bits.new.dest.items ≡ [] = ap (λ v. v.items) c.replace-bits.ensures.after ∙ c.in_ok-with_capacity.ensures.items in
     let waiting : ops ≡ old.bits.items = ap (λ v. v.items) c.replace-bits.ensures.value in
     let made : now ≡ rows_after old.rows.rows ops = c.apply.ensures.rows ∙ ap (λ (m : Rows). rows_after m ops) c.reserve.ensures.rows in
     ap (λ (l : List RowOp). rows_after now (others ++ l)) none

@@ -1,4 +1,4 @@
-use Rattle.std.proofs.Common.{◌+◌, ◌-◌, arith}
+use Rattle.std.proofs.Common.{◌-◌, arith}
 use Rattle.meta_log.proofs.RunLemmas.{one_pushed, record_begins}
 use Rattle.meta_log.proofs.runs.push_record.Goals as goal
 

@@ -1,5 +1,5 @@
 #!/usr/bin/env bash
-# Times opening a store, beside reading its half of the log with dd, in one run: the seconds of each, the ratio, and the program's peak memory.
+# Times opening a store, beside reading both halves of its log with dd, in one run: the seconds of each, the ratio, and the program's peak memory.
 # First a store of the most units, 1048576, with halves of 65536 units, on a sparse file: mkfs, and a step without a command. Then a store whose log has
 # as many records as are asked for. Five turns, each in an order drawn anew, the middle one of the times. It says what is wanted of each, and
 # ends with status 1 where one is beyond that. Usage: bench/mount.sh [RECORDS] [FOLDER ON THE DISK]
@@ -15,12 +15,12 @@ about
 
 now() { date +%s%N; }
 
-# turn_of WHO: an empty script on the device of the half, or dd of its first half
+# turn_of WHO: an empty script on the device, or dd of both halves
 turn_of() {
   local began
   began=$(now)
   if [ "$1" = peer ]; then
-    "${ahead[@]}" dd if="$disk" of=/dev/null bs=256K skip=8192 iflag=skip_bytes count=$((half / 64)) status=none
+    "${ahead[@]}" dd if="$disk" of=/dev/null bs=256K skip=8192 iflag=skip_bytes count=$((half / 32)) status=none
   else
     "${ahead[@]}" /usr/bin/env time -f %M -o "$made/memory" "$program" step "$disk" --seed "$turn" "$made/empty" >"$made/output" ||
       { cat "$made/output"; exit 1; }
@@ -40,10 +40,10 @@ opens() {
   peer=$(middle peer)
   peak=$(sort -n "$made/peaks" | tail -n 1)
   awk -v name="$1" -v a="$ours" -v b="$peer" -v m="$peak" 'BEGIN {
-    printf "%-24s %.3f s, dd of the half %.3f s, ratio %.1f, peak memory %.0f MiB\n", name, a / 1e9, b / 1e9, a / b, m / 1024
+    printf "%-24s %.3f s, dd of both halves %.3f s, ratio %.1f, peak memory %.0f MiB\n", name, a / 1e9, b / 1e9, a / b, m / 1024
   }'
   tail -n 1 "$made/output"
-  wanted "$1: opening against dd of the half" "$(ratio "$ours" "$peer")" 'at most' 2.5
+  wanted "$1: opening against dd of both halves" "$(ratio "$ours" "$peer")" 'at most' 2.5
   wanted "$1: peak memory, in MiB" "$(ratio "$peak" 1024)" 'at most' 8
 }
 

@@ -2,9 +2,9 @@
 //! and costs the more the more it calls.
 
 use crate::{
-    bitmap_freelist_tests, crc32c_csum_tests, extent_shards_tests, meta_log_tests, meta_rows_tests,
-    meta_store_tests, onode_codec_tests, row_check_tests, script_text_tests, txn_codec_tests,
-    unit_allocator_tests, unit_fields_tests,
+    bitmap_freelist_tests, crc32c_csum_tests, extent_shards_tests, log_replay_tests,
+    meta_log_tests, meta_rows_tests, meta_store_tests, onode_codec_tests, row_check_tests,
+    script_text_tests, txn_codec_tests, unit_allocator_tests, unit_fields_tests,
 };
 use std::alloc::{AllocError, Global};
 use std::test::*;
@@ -41,6 +41,10 @@ fn first_wrong(alloc: Global) -> Option<Wrong> {
         (
             "torn records",
             place(meta_log_tests::first_wrong_torn(alloc)),
+        ),
+        (
+            "units that aren't zero",
+            place(log_replay_tests::first_wrong(alloc)),
         ),
         ("rows", place(meta_rows_tests::first_wrong(alloc))),
         ("a full log", place(meta_store_tests::first_wrong(alloc))),

@@ -17,6 +17,8 @@ mod extent_shards_tests;
 #[cfg(test)]
 mod file_ends_tests;
 #[cfg(test)]
+mod log_replay_tests;
+#[cfg(test)]
 mod meta_log_tests;
 #[cfg(test)]
 mod meta_rows_tests;

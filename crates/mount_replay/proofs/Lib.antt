@@ -1,4 +1,5 @@
 pub mod DurableLemmas
+pub mod RestLemmas
 pub mod MountingLemmas
 pub mod MountLemmas
 pub mod MountedLemmas

@@ -5,8 +5,10 @@ use Rattle.std.proofs.lemmas.List.{take_at}
 use Rattle.byte_maps.specs.Units.{IsUnits}
 use Rattle.block_device.specs.Prelude.{last, IsClean, Disk, History, IsSound}
 use Rattle.object_model.specs.Prelude.{Objects}
-use Rattle.meta_log.specs.Prelude.{active_half}
+use Rattle.meta_log.specs.declared.runs.UnitRun.{UnitRun}
+use Rattle.meta_log.specs.Prelude.{active_half, other_unit, in_runs}
 use Rattle.store_image.specs.Prelude.{StandsFor, IsStart, EachCutStands}
+use Rattle.log_facts.specs.Prelude.{OtherHalfRests}
 use Rattle.unit_allocator.specs.Prelude.{Space}
 use Rattle.store_steps.specs.Prelude.{State, Found, opened}
 use Rattle.plan_rows.specs.Prelude.{IsGood}
@@ -15,16 +17,17 @@ use Rattle.run_facts.specs.Prelude.{IsOpenable, IsKept}
 use Rattle.run_facts.proofs.Prelude.{kept_open}
 use Rattle.crash_facts.specs.Store.{KeepsDurable, IsMounted}
 use Rattle.crash_facts.proofs.Keeping.{mounted_keeps}
-use Rattle.log_replay.specs.Prelude.{Told, IsLater, IsAllClean, AreClearing, IsCleared, ClearsSoFar, IsAbout, IsFoundIn, IsRefused, IsUnopenable, FailsMount, IsFoundOn, IsJudged, as_found, first_behind, half_end, rest_of, AreStaleOf, IsLogCleared, ClearsLog}
-use Rattle.mount_replay.specs.Mounting.{behind_records, WasOpened, IsOpenedOn, StaysDurable}
+use Rattle.log_replay.specs.Prelude.{Told, IsLater, IsAllClean, AreClearing, IsCleared, ClearsSoFar, IsAbout, IsFoundIn, IsRefused, IsUnopenable, FailsMount, IsFoundOn, IsJudged, as_found, first_behind, half_end, rest_of, AreStaleOf, IsLogCleared, ClearsLog, AreZeroOutside, AreRunsOn}
+use Rattle.mount_replay.specs.Mounting.{with_stale, IsStaleIn, behind_records, WasOpened, IsOpenedOn, StaysDurable}
 use Rattle.log_replay.specs.declared.opening.MountFail.{MountFail}
 use Rattle.log_replay.specs.declared.opening.MountFail.TheVariants.{Memory, NoSuper, BadRow, NotExact, WornOut, Fault}
 use Rattle.log_replay.specs.declared.replaying.FoundStore.{FoundStore}
 use Rattle.log_replay.proofs.RunLemmas.{by_length}
 use Rattle.log_replay.proofs.ZeroLemmas.{told_map, goes_on_same}
 use Rattle.log_replay.proofs.ClearLemmas.{told_both, all_of_contained}
-use Rattle.log_replay.proofs.OpeningLemmas.{about_all, about_more}
+use Rattle.log_replay.proofs.OpeningLemmas.{about_all, about_both, about_more}
 use Rattle.mount_replay.proofs.DurableLemmas.{no_book, still_durable, after_clearing, is_mounted}
+use Rattle.mount_replay.proofs.RestLemmas.{rests_so_far, rests_clean}
 
 -- ---- what is told of two histories
 
@@ -69,16 +72,22 @@ pub stale_between : (s : FoundStore) (half units : List ℕ) → units ≡ s.sta
 stale_between s half units is tail stale = all_of_contained (λ unit. (first_behind s ≤ unit) × (unit < half_end s)) units
     (λ unit here. let there = stale.each unit (subst (λ (l : List ℕ). Contains l unit) is here) in (there.from, omega (arith, there.to, tail)))
 
-module _ (s : FoundStore) (d : Disk) (sound : IsSound d) (found : IsFoundOn d s) (good : IsGood s.sup s.log.rows.rows) where
+found_too : (s : FoundStore) (runs : List UnitRun) (contents : List ℕ) → IsFoundIn contents (as_found s) → IsFoundIn contents (with_stale s runs)
+found_too s runs contents is = record { active = is.active; replay = is.replay }
+
+module _ (s : FoundStore) (d : Disk) (sound : IsSound d) (found : IsFoundOn d s) (good : IsGood s.sup s.log.rows.rows)
+    (runs : List UnitRun) (other : AreRunsOn d (other_unit s.sup) s.sup.half runs) where
   f : Found
-  f = as_found s
+  f = with_stale s runs
 
   -- what its contents hold, where nothing is dirty
-  holds : (h : History) → d.history ≡ Some h → IsAllClean h → IsFoundIn (last h.start h.log) (as_found s) × (found.half ≡ active_half (last h.start h.log) s.sup)
+  holds : (h : History) → d.history ≡ Some h → IsAllClean h → IsFoundIn (last h.start h.log) (with_stale s runs) × (found.half ≡ active_half (last h.start h.log) s.sup)
   holds h told clean =
-      known (λ g. IsAllClean g → IsFoundIn (last g.start g.log) (as_found s) × (found.half ≡ active_half (last g.start g.log) s.sup)) d.history h told found.about clean
+      let is = known (λ g. IsAllClean g → IsFoundIn (last g.start g.log) (as_found s) × (found.half ≡ active_half (last g.start g.log) s.sup))
+      d.history h told found.about clean in
+      (found_too s runs (last h.start h.log) is.0, is.1)
 
-  rest_is : (h : History) → d.history ≡ Some h → IsAllClean h → rest_of found.half s ≡ behind_records (last h.start h.log) (as_found s)
+  rest_is : (h : History) → d.history ≡ Some h → IsAllClean h → rest_of found.half s ≡ behind_records (last h.start h.log) (with_stale s runs)
   rest_is h told clean = ap (λ l. drop (4096 * s.log.tail) l) (holds h told clean).1
 
   whole : (h : History) → d.history ≡ Some h → IsUnits s.sup.units h.start
@@ -94,7 +103,7 @@ module _ (s : FoundStore) (d : Disk) (sound : IsSound d) (found : IsFoundOn d s)
       let contents = last h.start h.log in
       let here = (holds h told clean).0 in
       let same = subst (λ l. ClearsSoFar (first_behind s) (half_end s) l h k) (rest_is h told clean) so_far in
-      (after_clearing (as_found s) h opening clean (whole h told) (whole_now h told) found.limits good.good here stands k same).cuts
+      (after_clearing (with_stale s runs) h opening clean (whole h told) (whole_now h told) found.limits good.good here stands k same).cuts
 
   pub stays_begun : (now : Disk) → Told (ClearsLog s found.half) d.history now.history → StaysDurable d now
   stays_begun now told h opening is clean stands =
@@ -112,7 +121,7 @@ module _ (s : FoundStore) (d : Disk) (sound : IsSound d) (found : IsFoundOn d s)
   Both count h k = ClearsLog s found.half h k × IsLogCleared s found.half count h k
 
   mounted_by : (count : ℕ) (h k : History) (base : ℕ) (opening : Objects) → d.history ≡ Some h → Both count h k → length k.log ≡ base + count
-      → IsStart base k opening → IsMounted base opening (as_found s) count k
+      → IsStart base k opening → IsMounted base opening (with_stale s runs) count k
   mounted_by count h k base opening told both counted start =
       let so_far = both.0 in
       let cleared = both.1 in
@@ -125,28 +134,35 @@ module _ (s : FoundStore) (d : Disk) (sound : IsSound d) (found : IsFoundOn d s)
       subst (λ a. StandsFor (last a h.log) opening) cleared.by.same_start (subst (λ l. StandsFor (last k.start l) opening) front start.stands) in
       let here = (holds h told clean).0 in
       let rest = rest_is h told clean in
-      subst (λ n. IsMounted n opening (as_found s) count k) (sym base_is)
-      (is_mounted (as_found s) h opening clean (whole h told) (whole_now h told) found.limits good.good here stands k count
+      subst (λ n. IsMounted n opening (with_stale s runs) count k) (sym base_is)
+      (is_mounted (with_stale s runs) h opening clean (whole h told) (whole_now h told) found.limits good.good here stands k count
       (subst (λ l. ClearsSoFar (first_behind s) (half_end s) l h k) rest so_far)
       (subst (λ l. IsCleared (first_behind s) (half_end s) l count h k) rest cleared) good.exact)
 
   pub opened_durable : (space : Space) (count : ℕ) (now : Disk) → now.flights ≡ [] → Told (ClearsLog s found.half) d.history now.history
-      → Told (IsLogCleared s found.half count) d.history now.history → KeepsDurable (opened (as_found s) space count) now
-  opened_durable space count now idle so_far cleared = mounted_keeps (as_found s) space count now idle (λ k base opening told counted start.
+      → Told (IsLogCleared s found.half count) d.history now.history → KeepsDurable (opened (with_stale s runs) space count) now
+  opened_durable space count now idle so_far cleared = mounted_keeps (with_stale s runs) space count now idle (λ k base opening told counted start.
       let both = told_both (ClearsLog s found.half) (IsLogCleared s found.half count) (Both count) d.history now.history (λ h k p q. (p, q)) so_far cleared in
       let before = told_before (Both count) d.history k (subst (λ o. Told (Both count) d.history o) told both) in
       mounted_by count before.old k base opening before.told before.holds counted start)
 
-  was_opened : (count : ℕ) (h k : History) → d.history ≡ Some h → IsLogCleared s found.half count h k → WasOpened (as_found s) count h k
-  was_opened count h k told cleared = record {
+  -- the other half rests, as it was found
+  other_rests : (h k : History) → d.history ≡ Some h → IsAllClean h → ClearsLog s found.half h k → OtherHalfRests k s.sup (in_runs runs)
+  other_rests h k told clean so_far =
+      let zeroed = known (λ g. IsAllClean g → AreZeroOutside (other_unit s.sup) s.sup.half runs (last g.start g.log)) d.history h told other.about clean in
+      rests_so_far s.sup s.log.tail (in_runs runs) found.limits (rest_of found.half s) h k (whole_now h told) so_far (rests_clean s.sup runs h clean zeroed)
+
+  was_opened : (count : ℕ) (h k : History) → d.history ≡ Some h → Both count h k → WasOpened (with_stale s runs) count h k
+  was_opened count h k told both = let cleared = both.1 in record {
     events = cleared.events;
     by = cleared.by;
     counted = cleared.counted;
     clearing = λ clean. subst (λ l. AreClearing (length h.log) (first_behind s) (half_end s) l cleared.events) (rest_is h told clean) cleared.are;
     clean = cleared.clean;
+    rests = λ clean. other_rests h k told clean both.0;
   }
 
-  pub openable : (space : Space) (units : ℕ) → s.sup.units ≡ units → IsJudged (as_found s) space → IsOpenable (as_found s) space units
+  openable : (space : Space) (units : ℕ) → s.sup.units ≡ units → IsJudged (as_found s) space → IsOpenable (with_stale s runs) space units
   openable space units same judged = record {
     limits = found.limits;
     units_are = same;
@@ -160,23 +176,27 @@ module _ (s : FoundStore) (d : Disk) (sound : IsSound d) (found : IsFoundOn d s)
   }
 
   pub opened_kept : (space : Space) (count : ℕ) (now : Disk) → IsSound now → now.flights ≡ [] → now.units ≡ d.units → count ≤ 4194308
-      → IsJudged (as_found s) space → IsKept (opened (as_found s) space count) now
+      → IsJudged (as_found s) space → IsKept (opened (with_stale s runs) space count) now
   opened_kept space count now now_sound idle same few judged =
-      kept_open (as_found s) space count now now_sound idle (omega (arith, few)) (openable space now.units (found.units_are ∙ sym same) judged)
+      kept_open (with_stale s runs) space count now now_sound idle (omega (arith, few)) (openable space now.units (found.units_are ∙ sym same) judged)
 
   pub opened_on : (space : Space) (count : ℕ) (now : Disk) (state : State) → IsJudged (as_found s) space → IsLater d now
-      → Told (IsLogCleared s found.half count) d.history now.history → state ≡ opened (as_found s) space count → IsOpenedOn d (as_found s) space now state
-  opened_on space count now state judged later cleared is = record {
-    openable = openable space d.units found.units_are judged;
-    unmarked = judged.unmarked;
-    numbers = judged.numbers;
-    found = about_more d (λ contents. IsFoundIn contents (as_found s) × (found.half ≡ active_half contents s.sup)) (λ contents. IsFoundIn contents (as_found s))
-        (λ contents both. both.0) found.about;
-    events = count;
-    state = is;
-    later = later;
-    told = told_map (IsLogCleared s found.half count) (WasOpened (as_found s) count) d.history now.history (λ h k told p. was_opened count h k told p) cleared;
-  }
+      → Told (ClearsLog s found.half) d.history now.history → Told (IsLogCleared s found.half count) d.history now.history
+      → state ≡ opened (with_stale s runs) space count → IsOpenedOn d (with_stale s runs) space now state
+  opened_on space count now state judged later so_far cleared is =
+      let both = told_both (ClearsLog s found.half) (IsLogCleared s found.half count) (Both count) d.history now.history (λ h k p q. (p, q)) so_far cleared in
+      record {
+        openable = openable space d.units found.units_are judged;
+        unmarked = judged.unmarked;
+        numbers = judged.numbers;
+        found = about_both d (λ contents. IsFoundIn contents (as_found s) × (found.half ≡ active_half contents s.sup))
+            (AreZeroOutside (other_unit s.sup) s.sup.half runs) (λ contents. IsFoundIn contents (with_stale s runs) × IsStaleIn contents (with_stale s runs))
+            (λ contents here zeroed. (found_too s runs contents here.0, zeroed)) found.about other.about;
+        events = count;
+        state = is;
+        later = later;
+        told = told_map (Both count) (WasOpened (with_stale s runs) count) d.history now.history (λ h k told p. was_opened count h k told p) both;
+      }
 
 -- ---- a store that is refused
 

@@ -16,7 +16,7 @@ use Rattle.store_image.proofs.Prelude.{same_rows}
 use Rattle.unit_allocator.specs.Prelude.{Space}
 use Rattle.store_steps.specs.Prelude.{State, Found}
 use Rattle.log_replay.specs.Prelude.{Told, GoesOnBy, IsAllClean, UnitRun, AreRuns, run_events, IsZeroing, IsFirstPart, flushed_runs, AreClearing, ClearsSoFar, IsAbout, IsFoundIn, IsUnopenable, FailsMount}
-use Rattle.mount_replay.specs.Mounting.{behind_records, WasOpened, IsOpenedOn}
+use Rattle.mount_replay.specs.Mounting.{behind_records, IsStaleIn, WasOpened, IsOpenedOn}
 use Rattle.mount_replay.specs.Mounted.{HoldsObjects, BeginsWith, RefusesStore}
 use Rattle.log_replay.specs.declared.opening.MountFail.{MountFail}
 use Rattle.log_replay.specs.declared.opening.MountFail.TheVariants.{Memory, NoSuper, BadRow, NotExact, WornOut, Fault}
@@ -87,7 +87,7 @@ module _ (given now : Disk) (h : History) (objects : Objects) (f : Found) (space
   contents = last h.start h.log
 
   found : IsFoundIn (last h.start h.log) f
-  found = known (λ g. IsAllClean g → IsFoundIn (last g.start g.log) f) given.history h holds.told mounted.found holds.clean
+  found = (known (λ g. IsAllClean g → IsFoundIn (last g.start g.log) f × IsStaleIn (last g.start g.log) f) given.history h holds.told mounted.found holds.clean).0
 
   whole : IsUnits f.sup.units h.start
   whole = subst (λ n. IsUnits n h.start) (sym mounted.openable.units_are) (known (λ g. IsUnits given.units g.start) given.history h holds.told sound.size)

@@ -2,21 +2,32 @@
 use Rattle.std.specs.Prelude.{◌≡◌, ◌⊎◌, ℕ, ◌+◌, ◌*◌, ◌≤◌, List, [], length, drop, Some, All}
 use Rattle.block_device.specs.Prelude.{last, Disk, History}
 use Rattle.block_device.specs.declared.event.Event.{Event}
-use Rattle.meta_log.specs.Prelude.{active_half, active_unit}
+use Rattle.meta_log.specs.declared.runs.UnitRun.{UnitRun}
+use Rattle.meta_log.specs.Prelude.{active_half, active_unit, other_unit, in_runs}
 use Rattle.object_model.specs.Prelude.{Objects}
 use Rattle.store_image.specs.Prelude.{StandsFor, EachCutStands}
+use Rattle.log_facts.specs.Prelude.{OtherHalfRests}
 use Rattle.unit_allocator.specs.Prelude.{Space}
 use Rattle.plan_rows.specs.Prelude.{IsGood}
 use Rattle.store_steps.specs.declared.step.Step.TheVariants.{Reap}
 use Rattle.store_steps.specs.Prelude.{State, Found, opened, Call, stepping, IsRun}
 use Rattle.run_facts.specs.Prelude.{IsOpenable}
-use Rattle.log_replay.specs.Prelude.{Told, GoesOn, GoesOnBy, IsLater, IsAllClean, AreClearing, ClearsSoFar, IsAbout, IsFoundIn, HasLowNumbers, AreUnmarkedFree}
+use Rattle.log_replay.specs.Prelude.{Told, GoesOn, GoesOnBy, IsLater, IsAllClean, AreClearing, ClearsSoFar, IsAbout, IsFoundIn, HasLowNumbers, AreUnmarkedFree, AreZeroOutside, as_found}
+use Rattle.log_replay.specs.declared.replaying.FoundStore.{FoundStore}
 
 -- the bytes of the active half behind the records
 abbrev pub behind_records : List ℕ → Found → List ℕ
 behind_records contents f = drop (4096 * f.tail) (active_half contents f.sup)
 
--- the units of the active half behind the records were cleared, in so many events
+-- what was found, with these runs of units of the other half
+abbrev pub with_stale : FoundStore → List UnitRun → Found
+with_stale s runs = record (as_found s) { stale = runs }
+
+-- of the other half exactly the units outside the runs that were found are zero
+abbrev pub IsStaleIn : List ℕ → Found → Type 0
+IsStaleIn contents f = AreZeroOutside (other_unit f.sup) f.sup.half f.stale contents
+
+-- The units of the active half behind the records were cleared, in so many events. The other half is as it was found.
 pub record WasOpened (f : Found) (count : ℕ) (old new : History) : Type 0 where
   pub events : List Event
   pub by : GoesOnBy events old new
@@ -24,6 +35,7 @@ pub record WasOpened (f : Found) (count : ℕ) (old new : History) : Type 0 wher
   pub clearing : IsAllClean old → AreClearing (length old.log) (active_unit f.sup + f.tail) (active_unit f.sup + f.sup.half)
       (behind_records (last old.start old.log) f) events
   pub clean : IsAllClean old → IsAllClean new
+  pub rests : IsAllClean old → OtherHalfRests new f.sup (in_runs f.stale)
 
 -- A kernel that was opened on this device: what the device holds is a store that a kernel can be opened on, the units behind its records
 -- were cleared, and the kernel's state is the one that it begins in.
@@ -31,7 +43,7 @@ pub record IsOpenedOn (given : Disk) (f : Found) (space : Space) (now : Disk) (s
   pub openable : IsOpenable f space given.units
   pub unmarked : AreUnmarkedFree f space
   pub numbers : HasLowNumbers f
-  pub found : IsAbout given (λ contents. IsFoundIn contents f)
+  pub found : IsAbout given (λ contents. IsFoundIn contents f × IsStaleIn contents f)
   pub events : ℕ
   pub state : s ≡ opened f space events
   pub later : IsLater given now

@@ -1,14 +1,16 @@
 //! Mounting a store and unmounting it.
 ghost use Rattle.std.specs.Prelude.{◌≡◌, ◌≢◌, ◌≤◌, ℕ, List, [], true, false, IfOk, IfErr, IsErrOf, MatchResult};
 ghost use Rattle.block_device.specs.Prelude.{IsSound, Rose};
+ghost use Rattle.meta_log.specs.Prelude.{other_unit};
 ghost use Rattle.unit_allocator.specs.Prelude.{Space};
 ghost use Rattle.store_steps.specs.declared.step.Step.TheVariants.{Reap};
 ghost use Rattle.store_steps.specs.Prelude.{State, Found, is_ready, Calls, stepping};
-ghost use Rattle.log_replay.specs.Prelude.{Told, IsLater, FailsMount, SubmitsNothing, IsFoundOn, IsJudged, AreStaleOf, IsLogCleared, ClearsLog, as_found};
-ghost use Rattle.mount_replay.specs.Mounting.{IsOpenedOn, BeganToClear, LeftUnopened, StaysDurable, IsReapedTo};
+ghost use Rattle.log_replay.specs.Prelude.{Told, IsLater, FailsMount, SubmitsNothing, IsFoundOn, IsJudged, AreStaleOf, AreRunsOn, IsLogCleared, ClearsLog, as_found};
+ghost use Rattle.mount_replay.specs.Mounting.{IsOpenedOn, BeganToClear, LeftUnopened, StaysDurable, IsReapedTo, with_stale};
 
 use block_device::{Device, Failed};
-use log_replay::{FoundStore, MountFail, clear_behind, failed, find_store, judge};
+use log_replay::{FoundStore, MountFail, clear_behind, failed, find_store, judge, other_runs};
+use meta_log::UnitRun;
 use meta_rows::RowTable;
 use meta_store::MetaStore;
 use object_model::Book;
@@ -39,20 +41,23 @@ fn clear_log<D: Device>(alloc: Global, dev: &mut D, found: &FoundStore) -> Resul
     )
 }
 
-/// Clears what is behind the records, and opens the kernel. `submitted` is a copy of the rows.
+/// Clears what is behind the records, and opens the kernel. `stale` are the runs of units of the other half that aren't zero, and `submitted` is
+/// a copy of the rows.
 fn open_on<D: Device>(
     alloc: Global,
     dev: D,
     found: FoundStore,
+    stale: Vec<UnitRun>,
     submitted: RowTable,
     space: Allocator,
 ) -> Result<Kernel<D>, (MountFail, D)>
     requires sound { IsSound (D.disk dev) }
     requires idle { (D.disk dev).flights ≡ [] }
     requires found { IsFoundOn (D.disk dev) found }
+    requires stale { AreRunsOn (D.disk dev) (other_unit found.sup) found.sup.half stale.items }
     requires submitted { submitted.rows ≡ found.log.rows.rows }
     requires judged { IsJudged (as_found found) space }
-    ensures ok { IfOk result (λ k. IsOpenedOn (D.disk dev) (as_found found) space (D.disk k.device) k.state) }
+    ensures ok { IfOk result (λ k. IsOpenedOn (D.disk dev) (with_stale found stale.items) space (D.disk k.device) k.state) }
     ensures fails { IfErr result (λ e. FailsMount e.0 (D.disk dev) (D.faults dev) (D.faults e.1)) }
     ensures began { IfErr result (λ e. ¬ SubmitsNothing e.0) }
     ensures writes { IfErr result (λ e. BeganToClear (D.disk dev) (D.disk e.1)) }
@@ -66,12 +71,12 @@ fn open_on<D: Device>(
         Err(why) => return Err((failed(why), dev)),
     };
     let FoundStore { sup, log, stale: _ } = found;
-    let meta = MetaStore::open(&sup, log.rows, log.tail, log.number, Vec::new(alloc));
+    let meta = MetaStore::open(&sup, log.rows, log.tail, log.number, stale);
     Ok(Kernel::open(alloc, dev, meta, submitted, space, events))
 }
 
 /// Opens the store on the device: the superblock of greatest epoch tells where its log is, and the log's records make the rows. It reads
-/// both superblock slots and the active half of the log. If the rows are good and the bitmap is exact, but for leaked units, it clears what is
+/// both superblock slots and both halves of the log, and of the half that isn't in use keeps which units aren't zero. If the rows are good and the bitmap is exact, but for leaked units, it clears what is
 /// behind the records: first the unit behind the last one, then the others that hold something, each part followed by a flush. A crash on the
 /// way leaves the same objects. The device comes back where no store was opened.
 pub fn mount<D: Device>(alloc: Global, dev: D) -> Result<Kernel<D>, (MountFail, D)>
@@ -96,7 +101,11 @@ pub fn mount<D: Device>(alloc: Global, dev: D) -> Result<Kernel<D>, (MountFail, 
     let Ok(submitted) = found.log.rows.copy(alloc) else {
         return Err((MountFail::Memory, dev));
     };
-    open_on(alloc, dev, found, submitted, space)
+    let stale = match other_runs(alloc, &mut dev, &found.sup) {
+        Ok(stale) => stale,
+        Err(why) => return Err((failed(why), dev)),
+    };
+    open_on(alloc, dev, found, stale, submitted, space)
 }
 
 /// Whether something is in flight.

@@ -6,15 +6,15 @@ use Rattle.run_facts.specs.Prelude.{IsKept}
 use Rattle.crash_facts.specs.Store.{KeepsDurable}
 use Rattle.store_kernel.specs.Seen.{found_of}
 use Rattle.log_replay.specs.Prelude.{as_found}
-use Rattle.mount_replay.specs.Mounting.{IsOpenedOn, StaysDurable}
+use Rattle.mount_replay.specs.Mounting.{IsOpenedOn, StaysDurable, with_stale}
 use Rattle.mount_replay.proofs.MountLemmas.{stays_begun, opened_durable, opened_kept, opened_on}
 use Rattle.mount_replay.proofs.mounting.open_on.Goals as goal
 
 pub returns-in-Err-clause-durable : goal.returns-in-Err-clause-durable
 returns-in-Err-clause-durable g c =
     let disk = g.D.Device.disk in
-    stays_begun c.args.found (disk c.args.dev) c.requires.sound c.requires.found c.requires.judged.good (disk c.clear_log.new.dev)
-    (c.in-Err.ensures.only c.requires.found.half c.requires.found.stale)
+    stays_begun c.args.found (disk c.args.dev) c.requires.sound c.requires.found c.requires.judged.good c.args.stale.items c.requires.stale
+    (disk c.clear_log.new.dev) (c.in-Err.ensures.only c.requires.found.half c.requires.found.stale)
 
 pub returns-in-Err-clause-writes : goal.returns-in-Err-clause-writes
 returns-in-Err-clause-writes g c = record {
@@ -34,8 +34,8 @@ open-requires-clause-kept g c =
     let now = disk c.clear_log.new.dev in
     let cleared = c.in-Ok.ensures in
     subst (λ (m : Meta). IsKept (opened (found_of m) c.args.space c.in-Ok.events) now) (sym c.open-meta.ensures)
-    (opened_kept c.args.found old c.requires.sound c.requires.found c.requires.judged.good c.args.space c.in-Ok.events now
-    cleared.later.sound cleared.later.idle cleared.later.units cleared.few c.requires.judged)
+    (opened_kept c.args.found old c.requires.sound c.requires.found c.requires.judged.good c.args.stale.items c.requires.stale c.args.space
+    c.in-Ok.events now cleared.later.sound cleared.later.idle cleared.later.units cleared.few c.requires.judged)
 
 pub open-requires-clause-durable : goal.open-requires-clause-durable
 open-requires-clause-durable g c =
@@ -44,8 +44,8 @@ open-requires-clause-durable g c =
     let now = disk c.clear_log.new.dev in
     let cleared = c.in-Ok.ensures in
     subst (λ (m : Meta). KeepsDurable (opened (found_of m) c.args.space c.in-Ok.events) now) (sym c.open-meta.ensures)
-    (opened_durable c.args.found old c.requires.sound c.requires.found c.requires.judged.good c.args.space c.in-Ok.events now cleared.later.idle
-    (cleared.only c.requires.found.half c.requires.found.stale) (cleared.cleared c.requires.found.half c.requires.found.stale))
+    (opened_durable c.args.found old c.requires.sound c.requires.found c.requires.judged.good c.args.stale.items c.requires.stale c.args.space
+    c.in-Ok.events now cleared.later.idle (cleared.only c.requires.found.half c.requires.found.stale) (cleared.cleared c.requires.found.half c.requires.found.stale))
 
 pub returns-clause-ok : goal.returns-clause-ok
 returns-clause-ok g c =
@@ -54,9 +54,10 @@ returns-clause-ok g c =
     let now = disk c.clear_log.new.dev in
     let cleared = c.in-Ok.ensures in
     let state = c.open.ensures.state ∙ ap (λ (m : Meta). opened (found_of m) c.args.space c.in-Ok.events) c.open-meta.ensures in
-    subst (λ (d : Disk). IsOpenedOn old (as_found c.args.found) c.args.space d c.open.result.state) (sym (ap disk c.open.ensures.device))
-    (opened_on c.args.found old c.requires.sound c.requires.found c.requires.judged.good c.args.space c.in-Ok.events now c.open.result.state
-    c.requires.judged cleared.later (cleared.cleared c.requires.found.half c.requires.found.stale) state)
+    subst (λ (d : Disk). IsOpenedOn old (with_stale c.args.found c.args.stale.items) c.args.space d c.open.result.state) (sym (ap disk c.open.ensures.device))
+    (opened_on c.args.found old c.requires.sound c.requires.found c.requires.judged.good c.args.stale.items c.requires.stale c.args.space
+    c.in-Ok.events now c.open.result.state c.requires.judged cleared.later (cleared.only c.requires.found.half c.requires.found.stale)
+    (cleared.cleared c.requires.found.half c.requires.found.stale) state)
 
 pub returns-clause-durable : goal.returns-clause-durable
 returns-clause-durable g c =
@@ -64,5 +65,5 @@ returns-clause-durable g c =
     let old = disk c.args.dev in
     let now = disk c.clear_log.new.dev in
     subst (λ (d : Disk). StaysDurable old d) (sym (ap disk c.open.ensures.device))
-    (stays_begun c.args.found old c.requires.sound c.requires.found c.requires.judged.good now
+    (stays_begun c.args.found old c.requires.sound c.requires.found c.requires.judged.good c.args.stale.items c.requires.stale now
     (c.in-Ok.ensures.only c.requires.found.half c.requires.found.stale))

@@ -120,6 +120,12 @@ module _ (s : FoundStore) (d : Disk) (sound : IsSound d) (found : IsFoundOn d s)
   abbrev Both : ℕ → History → History → Type 0
   Both count h k = ClearsLog s found.half h k × IsLogCleared s found.half count h k
 
+  -- the other half rests, as it was found
+  other_rests : (h k : History) → d.history ≡ Some h → IsAllClean h → ClearsLog s found.half h k → OtherHalfRests k s.sup (in_runs runs)
+  other_rests h k told clean so_far =
+      let zeroed = known (λ g. IsAllClean g → AreZeroOutside (other_unit s.sup) s.sup.half runs (last g.start g.log)) d.history h told other.about clean in
+      rests_so_far s.sup s.log.tail (in_runs runs) found.limits (rest_of found.half s) h k (whole_now h told) so_far (rests_clean s.sup runs h clean zeroed)
+
   mounted_by : (count : ℕ) (h k : History) (base : ℕ) (opening : Objects) → d.history ≡ Some h → Both count h k → length k.log ≡ base + count
       → IsStart base k opening → IsMounted base opening (with_stale s runs) count k
   mounted_by count h k base opening told both counted start =
@@ -137,7 +143,7 @@ module _ (s : FoundStore) (d : Disk) (sound : IsSound d) (found : IsFoundOn d s)
       subst (λ n. IsMounted n opening (with_stale s runs) count k) (sym base_is)
       (is_mounted (with_stale s runs) h opening clean (whole h told) (whole_now h told) found.limits good.good here stands k count
       (subst (λ l. ClearsSoFar (first_behind s) (half_end s) l h k) rest so_far)
-      (subst (λ l. IsCleared (first_behind s) (half_end s) l count h k) rest cleared) good.exact)
+      (subst (λ l. IsCleared (first_behind s) (half_end s) l count h k) rest cleared) good.exact (other_rests h k told clean so_far))
 
   pub opened_durable : (space : Space) (count : ℕ) (now : Disk) → now.flights ≡ [] → Told (ClearsLog s found.half) d.history now.history
       → Told (IsLogCleared s found.half count) d.history now.history → KeepsDurable (opened (with_stale s runs) space count) now
@@ -145,12 +151,6 @@ module _ (s : FoundStore) (d : Disk) (sound : IsSound d) (found : IsFoundOn d s)
       let both = told_both (ClearsLog s found.half) (IsLogCleared s found.half count) (Both count) d.history now.history (λ h k p q. (p, q)) so_far cleared in
       let before = told_before (Both count) d.history k (subst (λ o. Told (Both count) d.history o) told both) in
       mounted_by count before.old k base opening before.told before.holds counted start)
-
-  -- the other half rests, as it was found
-  other_rests : (h k : History) → d.history ≡ Some h → IsAllClean h → ClearsLog s found.half h k → OtherHalfRests k s.sup (in_runs runs)
-  other_rests h k told clean so_far =
-      let zeroed = known (λ g. IsAllClean g → AreZeroOutside (other_unit s.sup) s.sup.half runs (last g.start g.log)) d.history h told other.about clean in
-      rests_so_far s.sup s.log.tail (in_runs runs) found.limits (rest_of found.half s) h k (whole_now h told) so_far (rests_clean s.sup runs h clean zeroed)
 
   was_opened : (count : ℕ) (h k : History) → d.history ≡ Some h → Both count h k → WasOpened (with_stale s runs) count h k
   was_opened count h k told both = let cleared = both.1 in record {

@@ -76,9 +76,9 @@ fn open_on<D: Device>(
 }
 
 /// Opens the store on the device: the superblock of greatest epoch tells where its log is, and the log's records make the rows. It reads
-/// both superblock slots and both halves of the log, and of the half that isn't in use keeps which units aren't zero. If the rows are good and the bitmap is exact, but for leaked units, it clears what is
-/// behind the records: first the unit behind the last one, then the others that hold something, each part followed by a flush. A crash on the
-/// way leaves the same objects. The device comes back where no store was opened.
+/// both superblock slots and both halves of the log, and of the half that isn't in use keeps which units aren't zero. If the rows are good and
+/// the bitmap is exact, but for leaked units, it clears what is behind the records: first the unit behind the last one, then the others that
+/// hold something, each part followed by a flush. A crash on the way leaves the same objects. The device comes back where no store was opened.
 pub fn mount<D: Device>(alloc: Global, dev: D) -> Result<Kernel<D>, (MountFail, D)>
     requires idle { (D.disk dev).flights ≡ [] }
     ensures ok { IfOk result (λ k. (f : Found) × ((space : Space) × IsOpenedOn (D.disk dev) f space (D.disk k.device) k.state)) }

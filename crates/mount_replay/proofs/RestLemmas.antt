@@ -1,8 +1,8 @@
 -- The half of the log that isn't in use rests while what is behind the records of the other one is cleared.
-use Rattle.std.proofs.Common.{◌≡◌, ◌⊎◌, inl, inr, ℕ, zero, suc, ◌+◌, ◌-◌, ◌*◌, ◌%◌, ◌<◌, ◌≤◌, Bool, false, List, [], ◌∷◌, ◌++◌, length, refl, sym, ap, ap₂, subst, ◌∙◌, append_assoc, arith}
+use Rattle.std.proofs.Common.{◌≡◌, ◌⊎◌, inl, inr, ℕ, zero, suc, ◌+◌, ◌-◌, ◌*◌, ◌%◌, ◌<◌, Bool, List, [], ◌∷◌, ◌++◌, length, sym, ap, ap₂, subst, ◌∙◌, append_assoc, arith}
 use Rattle.std.specs.List.{AllByRecursion}
 use Rattle.std.proofs.lemmas.List.{append-nil}
-use Rattle.byte_maps.specs.Units.{IsUnits, zeros}
+use Rattle.byte_maps.specs.Units.{IsUnits}
 use Rattle.byte_maps.proofs.Prelude.{length-zeros}
 use Rattle.block_device.specs.Prelude.{last, History, with_event, EventFits}
 use Rattle.block_device.specs.declared.event.Event.{Event}

@@ -51,7 +51,7 @@ fn found(alloc: Global) -> Result<Option<Vec<UnitRun>>, AllocError> {
 /// 0 where others are found.
 pub fn first_wrong(alloc: Global) -> Result<Option<usize>, AllocError> {
     let is_found = match found(alloc)? {
-        Some(runs) => runs.as_slice() == RUNS,
+        Some(runs) => runs.as_slice() == RUNS.as_slice(),
         None => false,
     };
     Ok(first_false(&[is_found]))

@@ -69,10 +69,11 @@ printf 'sum 1.0_head b\nsum 1.0_head b\n' | each 'a sum of 128 MiB' 231000000 2
 
 : >"$made/empty"
 "$program" mkfs "$made/disk" --half 65536 --units 200000 >/dev/null
-told 'opening an empty half of 65536 units' 48600000 "$(counted "$made/empty")"
+# Both halves of the log are read: of the store of 8000 objects the other one's 8192 units take 5.3 million.
+told 'opening two empty halves of 65536 units' 87000000 "$(counted "$made/empty")"
 {
   echo 'mkcoll 1.0_head'
   for ((i = 0; i < 8000; i++)); do printf 'write 1.0_head o%05d 0 fill:%02x:4096\n' $((i * 2477 % 8000)) $((i % 256)); done
 } | set_up 8192 30000
-told 'opening 8000 objects of a record each, scrambled' 63500000 "$(counted "$made/empty")"
+told 'opening 8000 objects of a record each, scrambled' 67900000 "$(counted "$made/empty")"
 ! grep -q BEYOND "$made/told"

@@ -5,7 +5,7 @@ use Rattle.std.proofs.lemmas.List.{append_cancel_left}
 use Rattle.object_model.specs.declared.command.Command.TheVariants as ask
 use Rattle.read_facts.specs.Prelude.{IsLegalButBytes}
 use Rattle.store_steps.specs.declared.step.Step.TheVariants as step
-use Rattle.store_steps.specs.Prelude.{Batch, State, taken_up, committed_batch, finished, Accepts, Call, Calls, IsRun, intents, uncommitted, RowsPart, BookPart, rows_part, book_part, Touch, events_of, RowsGo, BookGoes, Replies, refuses, reads, IsCaused, Footprint}
+use Rattle.store_steps.specs.Prelude.{Batch, State, DoesTake, check_begun, switched, taken_up, committed_batch, finished, Accepts, Call, Calls, IsRun, intents, uncommitted, RowsPart, BookPart, rows_part, book_part, Touch, events_of, RowsGo, BookGoes, Replies, refuses, reads, IsCaused, Footprint}
 use Rattle.store_steps.specs.RowsGo as rows
 use Rattle.store_steps.specs.BookGoes as book
 use Rattle.run_facts.specs.Prelude.{IsKept}
@@ -54,6 +54,11 @@ module _ (K : State → Type 0) (fact : IsBookFact K) where
   -- ---- a call that leaves the kernel up
 
   module _ (s : State) (d : Disk) (s' : State) (d' : Disk) (plans : PlansKeep) (kept : IsKept s d) (up : s.down ≡ None) (known : K s) where
+    -- a state with the same book and the same transactions
+    rest_stays : (u : State) → book_part u ≡ book_part s → intents u.pending ≡ intents s.pending → u.submitted ≡ s.submitted → u.events ≡ s.events → K u
+    rest_stays u same waiting submitted events =
+        fact.stays s u (record { book = same; waiting = waiting; submitted = submitted; events = omega (arith, events) }) known
+
     parts_go : (t : Touch) → s'.events ≡ s.events + events_of t → (go : RowsGo (rows_part s) (rows_part s'))
         → (b : BookGoes s.events t (book_part s) (book_part s')) → IsCaused s d s' d' go b → K s'
     parts_go t events (rows.same is) (book.same same) caused = fact.stays s s' (parts_keep s s' is same (events_of t) events) known
@@ -61,8 +66,14 @@ module _ (K : State → Type 0) (fact : IsBookFact K) where
     parts_go t events (rows.same is) (book.acknowledges acked) caused = subst K (sym caused.does.after)
         (fact.finishes s (finish_ready s d kept.always (ready_by_table s d.depth step.Finish up caused.ready)).0 known)
     parts_go t events (rows.reorders later order is) (book.commits xs none opened) caused =
-        subst K (sym caused.does.after) (fact.takes s caused.does.context (take_none s d.depth (ready_by_table s d.depth step.Take up caused.ready))
-        (chosen_first [] s.pending caused.does.context caused.does.is_chosen) (kept.up up).flights.places.ascend known)
+        of_take caused.does
+      where
+        of_take : DoesTake s d s' d' → K s'
+        of_take (inl batch) = subst K (sym batch.after)
+            (fact.takes s batch.context (take_none s d.depth (ready_by_table s d.depth step.Take up caused.ready)).0
+            (chosen_first [] s.pending batch.context batch.is_chosen) (kept.up up).flights.places.ascend known)
+        of_take (inr check) = subst K (sym check.after) (rest_stays (check_begun s) refl refl refl refl)
+    parts_go t events (rows.switches number limits is) (book.same same) caused = subst K (sym caused.does.after) (rest_stays (switched s) refl refl refl refl)
     parts_go t events (rows.joins x is) (book.enters e entered) caused =
         fact.accepts s d s' caused.client caused.line caused.change plans kept caused.known caused.accepts known
     parts_go t events (rows.applies number front back both fits is) (book.applies count all counted) caused =

@@ -1,14 +1,16 @@
 -- Units and room go to accepted transactions alone: no other call takes any.
 use Rattle.std.proofs.Common.{◌≡◌, inl, inr, ℕ, ◌+◌, ◌-◌, ◌<◌, ◌≤◌, true, List, [], ◌∷◌, ◌++◌, length}
 use Rattle.std.proofs.Common.{None, Contains, refl, sym, ap, subst, ◌∙◌, arith}
-use Rattle.run_facts.proofs.Common.{Disk, IsSound, Entry, Answer, Command, Change, accepted_change, accepted, unit_count, FreshUnit, Step, IsKnown, PlansKeep, IsWithin, is_free, free_units, Super}
+use Rattle.run_facts.proofs.Common.{Disk, IsSound, Entry, Answer, Command, Change, accepted_change, accepted, unit_count, FreshUnit, Step, IsKnown, PlansKeep, IsWithin, is_free, free_units}
 use Rattle.std.proofs.lemmas.List.{length-map}
 use Rattle.object_model.specs.declared.command.Answer.TheVariants as answer
 use Rattle.object_model.specs.declared.command.Command.TheVariants as ask
-use Rattle.store_steps.specs.Prelude.{State, is_ready, Call, submitting, reading, stepping, DoesOrFails, Submits, Reads, Calls, IsRun, need_of, free_count, entered, Accepts, Refuses, ops_by, released_by, needs_by, RowsPart, rows_part, RowsGo, Footprint}
+use Rattle.store_steps.specs.Prelude.{State, is_ready, Call, submitting, reading, stepping, DoesOrFails, Submits, Reads, Calls, IsRun, need_of, room_of, rows_units, free_count, entered, Accepts, Refuses, ops_by, released_by, needs_by, RowsPart, rows_part, RowsGo, Footprint}
 use Rattle.plan_drafts.specs.Prelude.{most_units, fresh_units}
 use Rattle.unit_allocator.proofs.FreeUnits.{listed_is_free}
-use Rattle.meta_store.specs.Store.{room_of}
+use Rattle.meta_rows.specs.Prelude.{rows_after}
+use Rattle.meta_log.specs.Prelude.{check_units}
+use Rattle.space_facts.proofs.Prelude.{rows_units-after, check_units_are}
 use Rattle.run_facts.specs.Prelude.{IsKept, HasRoom}
 use Rattle.store_steps.specs.RowsGo as rows
 use Rattle.run_facts.proofs.Prelude.{footprint_of, IsNoJoin, none_joins, needs_join, StepOutcome, has_stepped, has_waited, has_gone_down, kept_leaves, kept_call}
@@ -35,29 +37,39 @@ same_room s t entries space log =
 -- what becomes of the rows without one that joins
 record PartLeaves (p q : RowsPart) : Type 0 where
   space : free_count p.space ≤ free_count q.space
-  room : p.sup.half - p.tail - p.reserved ≤ q.sup.half - q.tail - q.reserved
+  room : p.sup.half - rows_units p.rows - p.reserved ≤ q.sup.half - rows_units q.rows - q.reserved
 
-part_same : (p q : RowsPart) → q.space ≡ p.space → q.sup ≡ p.sup → q.tail ≡ p.tail → q.reserved ≡ p.reserved → PartLeaves p q
-part_same p q space sup tail reserved = record {
+part_same : (p q : RowsPart) → q.space ≡ p.space → q.sup.half ≡ p.sup.half → q.rows ≡ p.rows → q.reserved ≡ p.reserved → PartLeaves p q
+part_same p q space half rows reserved = record {
   space = (let same = ap free_count space in omega (arith, same));
-  room = omega (arith, ap (λ (k : Super). k.half) sup, tail, reserved);
+  room = left p.sup.half q.sup.half (rows_units p.rows) (rows_units q.rows) p.reserved q.reserved half (ap rows_units rows) reserved;
 }
+  where
+    left : (half half' rows rows' reserved reserved' : ℕ) → half' ≡ half → rows' ≡ rows → reserved' ≡ reserved
+        → half - rows - reserved ≤ half' - rows' - reserved'
+    left half half' rows rows' reserved reserved' is same as_much = omega (arith, is, same, as_much)
 
 part_leaves : (p q : RowsPart) (goes : RowsGo p q) → IsNoJoin goes → HasRoom p → PartLeaves p q
 part_leaves p q (rows.same is) alone has =
-    part_same p q (ap (λ (r : RowsPart). r.space) is) (ap (λ (r : RowsPart). r.sup) is) (ap (λ (r : RowsPart). r.tail) is) (ap (λ (r : RowsPart). r.reserved) is)
+    part_same p q (ap (λ (r : RowsPart). r.space) is) (ap (λ (r : RowsPart). r.sup.half) is) (ap (λ (r : RowsPart). r.rows) is) (ap (λ (r : RowsPart). r.reserved) is)
 part_leaves p q (rows.joins x is) alone has = absurd alone
 part_leaves p q (rows.reorders later complete is) alone has =
-    part_same p q (ap (λ (r : RowsPart). r.space) is) (ap (λ (r : RowsPart). r.sup) is) (ap (λ (r : RowsPart). r.tail) is) (ap (λ (r : RowsPart). r.reserved) is)
+    part_same p q (ap (λ (r : RowsPart). r.space) is) (ap (λ (r : RowsPart). r.sup.half) is) (ap (λ (r : RowsPart). r.rows) is) (ap (λ (r : RowsPart). r.reserved) is)
+part_leaves p q (rows.switches number limits is) alone has =
+    part_same p q (ap (λ (r : RowsPart). r.space) is) (ap (λ (r : RowsPart). r.sup.half) is) (ap (λ (r : RowsPart). r.rows) is) (ap (λ (r : RowsPart). r.reserved) is)
 part_leaves p q (rows.applies number front back both fits is) alone has = subst (PartLeaves p) (sym is) (record {
   space = count_given (released_by front) p.space;
-  room = by_number p.sup.half p.tail (unit_count number (ops_by front)) p.reserved (needs_by front) (needs_by back) fits has.room
-      (has.reserved ∙ ap needs_by both ∙ needs_join front back);
+  room = by_number p.sup.half (rows_units p.rows) (rows_units (rows_after p.rows (ops_by front))) (unit_count number (ops_by front)) p.reserved (needs_by front)
+      (needs_by back) (rows_units-after p.rows number (ops_by front)) fits.0 has.room (has.reserved ∙ ap needs_by both ∙ needs_join front back);
 })
   where
-    by_number : (half tail units reserved front back : ℕ) → units ≤ front → tail + reserved ≤ half → reserved ≡ front + back
-        → half - tail - reserved ≤ half - (tail + units) - (reserved - front)
-    by_number half tail units reserved front back few le is = omega (arith, few, le, is)
+    by_number : (half rows later units reserved front back : ℕ) → later ≤ rows + units → units ≤ front → rows + reserved ≤ half → reserved ≡ front + back
+        → half - rows - reserved ≤ half - later - (reserved - front)
+    by_number half rows later units reserved front back more few le is = omega (arith, more, few, le, is)
+
+-- the room of a state, by its rows as one record
+room_is : (s : State) → room_of s.log ≡ s.log.sup.half - rows_units s.log.rows - s.log.reserved
+room_is s = ap (λ (n : ℕ). s.log.sup.half - n - s.log.reserved) (check_units_are s.log.number s.log.rows)
 
 pub step_room : (s : State) (d : Disk) (s' : State) (d' : Disk) (step : Step) → IsKept s d → is_ready step d.depth s ≡ true → DoesOrFails step s d s' d'
     → LeavesRoom s s'
@@ -68,7 +80,11 @@ step_room s d s' d' step kept ready does = of_leaves (kept_leaves step s d s' d'
         let f : Footprint s d s' d' = footprint_of (stepping step) s d s' d' kept (paid.near.up ∙ up) (ready, does) in
         let leaves : PartLeaves (rows_part s) (rows_part s') =
         part_leaves (rows_part s) (rows_part s') f.rows (none_joins s d s' d' paid.near.entries f.rows f.book f.caused) (kept.up up).room in
-        record { entries = paid.near.entries; space = leaves.space; room = leaves.room }
+        record {
+          entries = paid.near.entries;
+          space = leaves.space;
+          room = (let was = room_is s in let is = room_is s' in let more = leaves.room in omega (arith, was, is, more));
+        }
     of_leaves (has_waited none same some) = same_room s s' (ap (λ (t : State). t.book.entries) same) (ap (λ (t : State). t.space) same) (ap (λ (t : State). t.log) same)
     of_leaves (has_gone_down gone) = same_room s s' (ap (λ (t : State). t.book.entries) gone.ends.after) (ap (λ (t : State). t.space) gone.ends.after)
         (ap (λ (t : State). t.log) gone.ends.after)
@@ -164,10 +180,10 @@ pub accepted_room : (s s' : State) (d : Disk) (client line : ℕ) (change : Chan
     → (a : Accepts client line change s d s') → room_of s'.log + need_of s.log a.plan ≡ room_of s.log
 accepted_room s s' d client line change kept known a =
     ap (λ (t : State). room_of t.log + need_of s.log a.plan) a.after
-    ∙ by_number s.log.sup.half s.log.tail s.log.reserved (need_of s.log a.plan) a.fits
+    ∙ by_number s.log.sup.half (check_units s.log.number s.log.rows) s.log.reserved (need_of s.log a.plan) a.fits
   where
-    by_number : (half tail reserved need : ℕ) → need ≤ half - tail - reserved → half - tail - (reserved + need) + need ≡ half - tail - reserved
-    by_number half tail reserved need fits = omega (arith, fits)
+    by_number : (half rows reserved need : ℕ) → need ≤ half - rows - reserved → half - rows - (reserved + need) + need ≡ half - rows - reserved
+    by_number half rows reserved need fits = omega (arith, fits)
 
 pub steps_room : (step : Step) (s s' : State) (d d' : Disk) → IsKept s d → is_ready step d.depth s ≡ true → DoesOrFails step s d s' d' → IsSound d'
     → room_of s.log ≤ room_of s'.log

@@ -14,7 +14,7 @@ use Rattle.store_steps.specs.Prelude.{State, intents, SpaceIsCounted, HoldsAreCo
 use Rattle.run_facts.specs.Prelude.{IsSpaceOf, IsKept}
 use Rattle.run_facts.proofs.Prelude.{idle_is_free, IsIdle, idle_uncommitted, known_idle, kept_rows, kept_space}
 use Rattle.unit_facts.specs.Known.{KnownOfUnits}
-use Rattle.unit_facts.proofs.Runs.{idle_half}
+use Rattle.unit_facts.proofs.Runs.{idle_half, idle_other}
 use Rattle.crash_facts.proofs.Now.{size_now}
 use Rattle.bstore_top.specs.Prelude.{AreUnmarked, HasFree}
 
@@ -54,15 +54,16 @@ drained_free base s d h kept known up drained =
     let idle : IsIdle s = known_idle s d kept up drained in
     let found = idle_half base s d h known idle.begun in
     let half = found.1 in
+    let slots = (idle_other base s d h known idle.switching).0 in
     let whole : IsUnits sup.units contents = size_now s d h kept known.told in
-    let inside = half_inside sup contents known.other.0.limits whole in
+    let inside = half_inside sup contents slots.limits whole in
     let within : tail ≤ sup.half = omega (arith, half.room) in
     let parts = half_parts contents sup tail (records_units sup.first found.0) half.whole within inside (λ k below. (half.front k below).last) in
     let counted : SpaceIsCounted sup s.log.rows [] s.space =
     subst (λ (xs : List Context). SpaceIsCounted sup s.log.rows (intents xs) s.space) (idle_uncommitted s idle) (kept_rows s d kept up).counted in
     record {
       sup = sup;
-      active = slots_read contents sup known.other.0.limits whole known.other.0.active.last known.other.0.other.last;
+      active = slots_read contents sup slots.limits whole slots.active.last slots.other.last;
       rows = s.log.rows;
       read = rows_read contents sup s.log.rows found.0 (behind_units contents sup tail) half.made half.spellable parts
           (no_record_behind contents sup tail within inside (λ some. (half.zero_behind tail (omega arith) some).last) (sup.first + length found.0));

@@ -16,7 +16,7 @@ pub enum Drawn {
 }
 
 /// The ready steps in the order of their table, in front in the array, and how many they are.
-fn ready_steps<D: Device>(kernel: &Kernel<D>) -> ([Step; 9], usize)
+fn ready_steps<D: Device>(kernel: &Kernel<D>) -> ([Step; 14], usize)
     ensures ready { take result.1 result.0 ≡ ready_list (D.disk kernel.now.device).depth kernel.now.state }
     ensures few { result.1 ≤ length result.0 }
 {

@@ -17,7 +17,7 @@ use Rattle.object_model.specs.declared.book.Commit.{Commit}
 use Rattle.object_model.specs.declared.book.Entry.{Entry}
 use Rattle.meta_log.specs.Prelude.{active_unit}
 use Rattle.store_image.specs.Prelude.{StaysExact, StandsFor, NoChanceMatch, AreAsWritten, IsOutranked, LeavesPrefix, EachCutStands}
-use Rattle.store_steps.specs.Prelude.{acknowledged, Intent, BookPart, Touch, nothing, ends, flushes, on_data, on_half, after, run_write, BookGoes, enters, commits, acknowledges, commits_of}
+use Rattle.store_steps.specs.Prelude.{acknowledged, Intent, BookPart, Touch, nothing, ends, flushes, on_data, on_half, on_other, on_slot, after, run_write, BookGoes, enters, commits, acknowledges, commits_of}
 use Rattle.store_steps.specs.BookGoes.{same, applies}
 use Rattle.flight_facts.proofs.Prelude.{acknowledged_length}
 use Rattle.book_facts.proofs.Prelude.{places_acknowledged, changes_at, applied_by_places, applied_entry}
@@ -162,6 +162,10 @@ more_log base opening book (flushes ticket) h cuts now = each_cut_push base h.lo
 more_log base opening book (on_data ticket run) h cuts now = each_cut_push base h.log (run_write run) (LeavesPrefix base h.start opening book) cuts now
 more_log base opening book (on_half ticket unit bytes) h cuts now =
     each_cut_push base h.log (Write unit bytes) (LeavesPrefix base h.start opening book) cuts now
+more_log base opening book (on_other ticket unit bytes) h cuts now =
+    each_cut_push base h.log (Write unit bytes) (LeavesPrefix base h.start opening book) cuts now
+more_log base opening book (on_slot ticket unit bytes) h cuts now =
+    each_cut_push base h.log (Write unit bytes) (LeavesPrefix base h.start opening book) cuts now
 
 pub touched_start : (h : History) (t : Touch) → (after t h).start ≡ h.start
 touched_start h nothing = refl
@@ -169,6 +173,8 @@ touched_start h (ends ticket) = refl
 touched_start h (flushes ticket) = refl
 touched_start h (on_data ticket run) = refl
 touched_start h (on_half ticket unit bytes) = refl
+touched_start h (on_other ticket unit bytes) = refl
+touched_start h (on_slot ticket unit bytes) = refl
 
 pub book_cuts : (base events : ℕ) (opening : Objects) (t : Touch) (p q : BookPart) (h : History) → BookGoes events t p q
     → AllByRecursion (λ c. IsSome (change_at p.book.entries c.place)) p.book.commits → length h.log ≡ base + events → EachCutStands base h opening p.book

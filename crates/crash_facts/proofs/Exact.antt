@@ -14,7 +14,7 @@ use Rattle.store_image.specs.Prelude.{IsLeaked, IsExactBut, IsExactAs, IsLeakedI
 use Rattle.store_image.proofs.Prelude.{renamed, is_left_out}
 use Rattle.store_steps.specs.Prelude.{Intent, intents, is_in, rows_by, uncommitted, begun_ops, RowsPart, rows_part, Touch, after, run_write, RowsGo, joins, reorders, joined, Footprint, Batch, State, batch_ops}
 use Rattle.store_steps.specs.Touch as touch
-use Rattle.store_steps.specs.RowsGo.{same, applies}
+use Rattle.store_steps.specs.RowsGo.{same, applies, switches}
 use Rattle.run_facts.specs.Prelude.{IsKept, AreRowsKept}
 use Rattle.space_facts.proofs.Prelude.{selection_exact, rows_append, rows_by_ops}
 use Rattle.run_facts.proofs.Prelude.{IsMade, made_batch, flat_intents}
@@ -107,6 +107,8 @@ touched_contents base h (touch.ends ticket) reached = same_contents base h (Done
 touched_contents base h (touch.flushes ticket) reached = same_contents base h Flush reached
 touched_contents base h (touch.on_data ticket run) reached = same_contents base h (run_write run) reached
 touched_contents base h (touch.on_half ticket unit bytes) reached = same_contents base h (Write unit bytes) reached
+touched_contents base h (touch.on_other ticket unit bytes) reached = same_contents base h (Write unit bytes) reached
+touched_contents base h (touch.on_slot ticket unit bytes) reached = same_contents base h (Write unit bytes) reached
 
 -- ---- each call
 
@@ -120,6 +122,7 @@ part_exact leaked p q (same is) one every = subst (AreExact leaked) (sym is) eve
 part_exact leaked p q (joins x is) one every = one x is
 part_exact leaked p q (reorders later order is) one every =
     subst (AreExact leaked) (sym is) (λ some fair. every some (fair_among is_in later p.intents some (λ n. sym (order n)) fair))
+part_exact leaked p q (switches number limits is) one every = subst (AreExact leaked) (sym is) every
 part_exact leaked p q (applies number front back both fits is) one every = subst (AreExact leaked) (sym is)
     (λ some fair. subst (IsExactBut (width_of p.sup) leaked)
     (rows_append p.rows front some ∙ ap (λ (rows : Rows). rows_by rows some) (sym (rows_by_ops p.rows front)))

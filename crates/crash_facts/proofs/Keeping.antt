@@ -10,7 +10,7 @@ use Rattle.block_device.specs.declared.event.Event.TheVariants.{Write, Flush, Do
 use Rattle.object_model.specs.Prelude.{Objects}
 use Rattle.store_image.specs.Prelude.{StandsFor, IsStart, EachCutStands}
 use Rattle.unit_allocator.specs.Prelude.{Space}
-use Rattle.store_steps.specs.Prelude.{State, Found, opened, Call, Calls, Touch, nothing, ends, flushes, on_data, on_half, Adds, events_of, run_write, Footprint}
+use Rattle.store_steps.specs.Prelude.{State, Found, opened, Call, Calls, Touch, nothing, ends, flushes, on_data, on_half, on_other, on_slot, Adds, events_of, run_write, Footprint}
 use Rattle.plan_drafts.specs.Prelude.{PlansKeep}
 use Rattle.run_facts.specs.Prelude.{IsKept}
 use Rattle.run_facts.proofs.Prelude.{GoesDown, down_call, footprint_of}
@@ -41,6 +41,10 @@ touch_events s s' d d' (flushes ticket) adds counted =
 touch_events s s' d d' (on_data ticket run) adds counted =
     inr (record { event = run_write run; more = ap (λ (e : Disk). e.history) adds.after; counted = counted })
 touch_events s s' d d' (on_half ticket unit bytes) adds counted =
+    inr (record { event = Write unit bytes; more = ap (λ (e : Disk). e.history) adds.after; counted = counted })
+touch_events s s' d d' (on_other ticket unit bytes) adds counted =
+    inr (record { event = Write unit bytes; more = ap (λ (e : Disk). e.history) adds.after; counted = counted })
+touch_events s s' d d' (on_slot ticket unit bytes) adds counted =
     inr (record { event = Write unit bytes; more = ap (λ (e : Disk). e.history) adds.after; counted = counted })
 
 down_events : (s s' : State) (d d' : Disk) → GoesDown s d s' d' → IsAtMostOne s s' d d'

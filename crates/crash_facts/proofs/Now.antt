@@ -14,12 +14,16 @@ use Rattle.meta_rows.specs.declared.row_op.RowOp.{RowOp}
 use Rattle.meta_rows.specs.Prelude.{Rows, rows_after}
 use Rattle.meta_log.specs.Prelude.{unit_count, given_from, width_of}
 use Rattle.meta_log.proofs.PieceLemmas.{given_from-none}
-use Rattle.store_image.specs.Prelude.{IsLeakedIn, LeavesPrefix}
+use Rattle.store_image.specs.Prelude.{IsExactBut, IsLeakedIn, LeavesPrefix}
 use Rattle.log_facts.specs.Prelude.{flushed, SoundFor}
 use Rattle.log_facts.proofs.Cuts.{cut_stands}
+use Rattle.switch_facts.specs.Prelude.{CheckPart}
+use Rattle.switch_facts.proofs.Steps.{known_as}
+use Rattle.switch_facts.proofs.Cuts.{cut_of_check}
+use Rattle.unit_facts.proofs.Calls.{half_while_checking}
 use Rattle.store_steps.specs.declared.flight.FlushState.{FlushState}
-use Rattle.meta_store.specs.Store.{Begun}
-use Rattle.store_steps.specs.Prelude.{Batch, State, applied_count, uncommitted, all_fresh, flush_of, begun_ops, submitted_from, second_flush, intents}
+use Rattle.meta_store.specs.Store.{Begun, Meta}
+use Rattle.store_steps.specs.Prelude.{Batch, State, applied_count, uncommitted, all_fresh, flush_of, begun_ops, submitted_from, second_flush, other_part, intents}
 use Rattle.run_facts.specs.Prelude.{AcksAre, IsKept}
 use Rattle.run_facts.proofs.Prelude.{batch_written, given_flushed, some_units}
 use Rattle.book_facts.specs.Prelude.{applied_changes, changes_of}
@@ -101,13 +105,24 @@ module _ (base : ℕ) (opening : Objects) (s : State) (d : Disk) (h : History) (
 
 pub now_stands : (base : ℕ) (opening : Objects) (s : State) (d : Disk) (h : History) → IsKept s d → s.down ≡ None → KnownOfStore base opening s d h
     → LeavesPrefix base h.start opening s.book h.log
-now_stands base opening s d h kept up known =
-    let m = s.log in
-    cut_stands h m.sup m.rows m.tail m.number (begun_ops m.begun) (submitted_from m.number m.begun) (second_flush s.batch) known.units.half.recs
-    base opening s.book (applied_count s) (start_size s d h kept known.units.told) (size_now s d h kept known.units.told) known.units.other.0
-    known.units.half.stands (omega arith)
-    (acked_within base (length h.log) s.acked (applied_count s) s.book.commits kept.always.book.acks kept.always.book.within)
-    (rows_sound base opening s d h kept up known)
-    (begun_sound base opening s d h kept up known)
-    (rows_exact (width_of s.log.sup) (IsLeakedIn (contents_at base h)) m.rows (intents (uncommitted s)) known.exact)
-    (kept_begun (IsLeakedIn (contents_at base h)) s d kept up known.exact)
+now_stands base opening s d h kept up known = of_check (other_part s).check refl
+  where
+    m : Meta
+    m = s.log
+
+    acked : HasAcked base (length h.log) s.book.commits (applied_count s)
+    acked = acked_within base (length h.log) s.acked (applied_count s) s.book.commits kept.always.book.acks kept.always.book.within
+
+    exact : IsExactBut (width_of m.sup) (IsLeakedIn (contents_at base h)) m.rows
+    exact = rows_exact (width_of m.sup) (IsLeakedIn (contents_at base h)) m.rows (intents (uncommitted s)) known.exact
+
+    of_check : (o : Option CheckPart) → (other_part s).check ≡ o → LeavesPrefix base h.start opening s.book h.log
+    of_check None is =
+        cut_stands h m.sup m.rows m.tail m.number (begun_ops m.begun) (submitted_from m.number m.begun) (second_flush s.batch) known.units.half.recs
+        base opening s.book (applied_count s) (start_size s d h kept known.units.told) (size_now s d h kept known.units.told)
+        (known_as h (other_part s) None is known.units.other).0 known.units.half.stands (omega arith) acked (rows_sound base opening s d h kept up known)
+        (begun_sound base opening s d h kept up known) exact (kept_begun (IsLeakedIn (contents_at base h)) s d kept up known.exact)
+    of_check (Some c) is =
+        cut_of_check h (other_part s) (submitted_from m.number m.begun) (second_flush s.batch) known.units.half.recs base opening s.book (applied_count s)
+        (start_size s d h kept known.units.told) (size_now s d h kept known.units.told) known.units.other c is
+        (half_while_checking s d h kept up known.units c is) (omega arith) acked (rows_sound base opening s d h kept up known) exact

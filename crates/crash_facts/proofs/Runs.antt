@@ -25,7 +25,7 @@ use Rattle.book_facts.proofs.Prelude.{book_opened, book_call, stand_none}
 use Rattle.crash_facts.specs.HeldBytes.{held_or_last}
 use Rattle.unit_facts.specs.Known.{KnownOfUnits}
 use Rattle.unit_facts.proofs.Calls.{footprint_known, opened_known}
-use Rattle.unit_facts.proofs.Runs.{idle_half, drained_clean}
+use Rattle.unit_facts.proofs.Runs.{idle_half, idle_other, drained_clean}
 use Rattle.crash_facts.specs.Store.{contents_at, KnownOfStore, IsDurable, IsMounted}
 use Rattle.crash_facts.proofs.Submitted.{idle_objects}
 use Rattle.crash_facts.proofs.Answered.{AreAnswered, call_answers}
@@ -174,7 +174,7 @@ drained_stands base opening s d h kept up drained known =
     let idle : IsIdle s = known_idle s d kept up drained in
     let half = idle_half base s d h known.units idle.begun in
     log_stands h s.log.sup s.log.rows s.log.tail s.log.number 0 (second_flush s.batch) half.0 (replay opening (accepted s.book.entries))
-    (size_now s d h kept known.units.told) known.units.other.0 half.1 (kept.up up).rows.good.good
+    (size_now s d h kept known.units.told) (idle_other base s d h known.units idle.switching).0 half.1 (kept.up up).rows.good.good
     (idle_objects base opening s d h kept up known idle)
 
 pub drained_exact : (base : ℕ) (opening : Objects) (s : State) (d : Disk) (h : History) → IsKept s d → s.down ≡ None → is_drained d.depth s ≡ true
@@ -183,7 +183,7 @@ drained_exact base opening s d h kept up drained known =
     let idle : IsIdle s = known_idle s d kept up drained in
     let half = idle_half base s d h known.units idle.begun in
     let found = log_reads h s.log.sup s.log.rows s.log.tail s.log.number 0 (second_flush s.batch) half.0
-    (size_now s d h kept known.units.told) known.units.other.0 half.1 in
+    (size_now s d h kept known.units.told) (idle_other base s d h known.units idle.switching).0 half.1 in
     exact_image (contents_at base h) (last h.start h.log) s.log.sup s.log.rows found.0 found.1
     (rows_exact (width_of s.log.sup) (IsLeakedIn (contents_at base h)) s.log.rows (intents (uncommitted s)) known.exact)
 

@@ -15,7 +15,7 @@ use Rattle.store_image.specs.Prelude.{NoBadRow, HasPage, ObjectsStand}
 use Rattle.store_image.proofs.Prelude.{objects_stand, page_owned}
 use Rattle.log_facts.proofs.Keeping.{last_push, half_before_data, half_spares_data}
 use Rattle.plan_rows.specs.declared.plan.FreshUnit.{FreshUnit}
-use Rattle.store_steps.specs.Prelude.{Batch, State, unsent_units, acknowledged, committed_batch, DoesCommit, Intent, intents, is_in, rows_by, uncommitted, given_fresh, RowsPart, DataPart, BookPart, rows_part, data_part, book_part, Touch, nothing, ends, flushes, on_data, on_half, after, run_write, IsPlaced, IsNoData, RowsGo, DataGoes, BookGoes, commits_of, AcceptsOne, IsCaused, Footprint}
+use Rattle.store_steps.specs.Prelude.{Batch, State, unsent_units, acknowledged, committed_batch, DoesCommit, Intent, intents, is_in, rows_by, uncommitted, given_fresh, RowsPart, DataPart, BookPart, rows_part, data_part, book_part, Touch, nothing, ends, flushes, on_data, on_half, on_other, on_slot, after, run_write, IsPlaced, IsNoData, RowsGo, DataGoes, BookGoes, commits_of, AcceptsOne, IsCaused, Footprint}
 use Rattle.store_steps.specs.RowsGo as rows
 use Rattle.store_steps.specs.DataGoes as units
 use Rattle.store_steps.specs.BookGoes as book
@@ -29,6 +29,9 @@ use Rattle.book_facts.specs.Prelude.{IsOfEntry, KnownOfBook, IsFairSelection, ap
 use Rattle.book_facts.proofs.Prelude.{all_then, places_acknowledged, changes_at, applied_by_places, applied_entry, applied_committed, batch_last}
 use Rattle.unit_facts.specs.DataUnits.{HeldBytesAreLast}
 use Rattle.unit_facts.proofs.RunWrites.{row_spares}
+use Rattle.unit_facts.proofs.Units.{other_before_data, other_spares_data, slot_spares_data}
+use Rattle.log_facts.specs.Prelude.{not_sent, sent, flushed}
+use Rattle.meta_log.specs.Prelude.{data_unit}
 use Rattle.crash_facts.specs.HeldBytes.{fresh_by, held_or_last}
 use Rattle.crash_facts.specs.Store.{ContextsStand}
 use Rattle.crash_facts.proofs.Admitting.{under_way_of, accept_stand}
@@ -49,6 +52,9 @@ bytes_kept : (flights : List Flight) (t : Touch) (p q : DataPart) (h : History) 
     → held_or_last h xs unit ≡ held_or_last (after t h) xs unit
 bytes_kept flights t p q h w r xs unit (units.same spares is) placed size limits width good own has = of_touch t spares placed
   where
+    on_data_unit : data_unit p.sup ≤ unit
+    on_data_unit = (owned_on_data p.sup r unit good (page_owned (width_of p.sup) r unit (subst (λ (v : Width). HasPage v r unit) width has))).0
+
     of_touch : (t : Touch) → IsNoData t → IsPlaced p.sup t → held_or_last h xs unit ≡ held_or_last (after t h) xs unit
     of_touch nothing spares placed = refl
     of_touch (ends ticket) spares placed = held_quiet h (Done ticket true) xs unit tt
@@ -57,8 +63,16 @@ bytes_kept flights t p q h w r xs unit (units.same spares is) placed size limits
     of_touch (on_half ticket place bytes) spares placed =
         with_same (fresh_by xs) (last_at h) (last_at (with_event h (Write place bytes))) unit
         (sym (last_push h (Write place bytes) unit (omega (arith, placed.1, half_before_data p.sup, limits.room, size))
-        (half_spares_data p.sup place unit bytes placed.1
-        (owned_on_data p.sup r unit good (page_owned (width_of p.sup) r unit (subst (λ (v : Width). HasPage v r unit) width has))).0)))
+        (half_spares_data p.sup place unit bytes placed.1 on_data_unit)))
+    of_touch (on_other ticket place bytes) spares placed =
+        with_same (fresh_by xs) (last_at h) (last_at (with_event h (Write place bytes))) unit
+        (sym (last_push h (Write place bytes) unit (omega (arith, placed.1, other_before_data p.sup, limits.room, size))
+        (other_spares_data p.sup place unit bytes placed.1 on_data_unit)))
+    of_touch (on_slot ticket place bytes) spares placed =
+        with_same (fresh_by xs) (last_at h) (last_at (with_event h (Write place bytes))) unit
+        (sym (last_push h (Write place bytes) unit (omega (arith, placed.0, placed.1, limits.room, size))
+        (slot_spares_data p.sup place unit bytes placed.0 placed.1 on_data_unit)))
+bytes_kept flights t p q h w r xs unit (units.switches number is) placed size limits width good own has = refl
 bytes_kept flights t p q h w r xs unit (units.gives ticket run g) placed size limits width good own has =
     held_over h (run_write run) (fresh_by xs) unit (omega (arith, placed.1, size))
     (λ others. row_spares run.first.unit unit (unsent_units run) g.row g.whole
@@ -71,6 +85,26 @@ bytes_kept flights t p q h w r xs unit (units.flushes_batch ticket untouched is)
 bytes_kept flights t p q h w r xs unit (units.is_flushed ticket was is) placed size limits width good own has =
     held_quiet h (Done ticket true) xs unit tt
 bytes_kept flights t p q h w r xs unit (units.retires rest was before is) placed size limits width good own has = refl
+
+-- the superblock stays
+data_stays : (r q : DataPart) → q ≡ r → q.sup.epoch ≡ r.sup.epoch + 1 → ⊥
+data_stays r q is next = never q.sup.epoch r.sup.epoch (ap (λ (x : DataPart). x.sup.epoch) is) next
+  where
+    never : (a b : ℕ) → a ≡ b → a ≡ b + 1 → ⊥
+    never a b still more = omega (arith, still, more)
+
+-- the device has no part in it where the halves change places
+switched_quiet : (flights : List Flight) (t : Touch) (p q : DataPart) → DataGoes flights t p q → q.sup.epoch ≡ p.sup.epoch + 1 → t ≡ nothing
+switched_quiet flights t p q (units.switches number is) next = refl
+switched_quiet flights t p q (units.same spares is) next = absurd (data_stays p q is next)
+switched_quiet flights t p q (units.gives ticket run g) next =
+    absurd (data_stays (record p { given = g.front ++ (unsent_units run ++ g.back) }) q g.then next)
+switched_quiet flights t p q (units.opens front mine back fresh before is) next =
+    absurd (data_stays (record p { given = mine ++ (front ++ back); fresh = fresh; first = not_sent }) q is next)
+switched_quiet flights t p q (units.flushes_batch ticket untouched is) next = absurd (data_stays (record p { first = sent ticket }) q is next)
+switched_quiet flights t p q (units.is_flushed ticket was is) next = absurd (data_stays (record p { first = flushed }) q is next)
+switched_quiet flights t p q (units.retires rest was before is) next =
+    absurd (data_stays (record p { given = rest; fresh = []; first = not_sent }) q is next)
 
 -- ---- transactions of the book
 
@@ -223,6 +257,10 @@ module _ (opening : Objects) (s s' : State) (d d' : Disk) (h : History) (plans :
   of_parts t u placed (rows.joins x is) (book.enters e entered) caused = accepts_stand opening s d s' h plans kept up known stand caused (reads caused)
   of_parts t u placed (rows.applies number front back both fits is) (book.applies count all counted) caused =
       commits_stand opening s d s' d' h kept up held known stand caused.does
+  of_parts t u placed (rows.switches number limits is) (book.same same) caused =
+      subst (λ (k : Touch). ContextsStand opening s' (after k h))
+      (sym (switched_quiet d.flights t (data_part s) (data_part s') u (ap (λ (z : State). z.log.sup.epoch) caused.does.after)))
+      (subst (λ (z : State). ContextsStand opening z h) (sym caused.does.after) stand)
   of_parts t u placed go b caused = absurd caused
 
   pub footprint_stand : (f : Footprint s d s' d') → ContextsStand opening s' (after f.touch h)

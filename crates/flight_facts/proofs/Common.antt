@@ -7,8 +7,9 @@ pub use Rattle.unit_fields.specs.Prelude.{Ascends}
 pub use Rattle.block_device.specs.Prelude.{Disk, Flight, IsApart, IsSound, IsUntouched, Reaped, Waited, flight_of, without}
 pub use Rattle.block_device.specs.declared.device.Ticket.{Ticket}
 pub use Rattle.meta_rows.specs.declared.row_op.RowOp.{RowOp}
-pub use Rattle.meta_log.specs.Prelude.{IsSuper, LiesInRecord, active_unit, given_from, piece_count, piece_first, piece_units, record_units, unit_count}
-pub use Rattle.meta_store.specs.Store.{Begun, Meta}
+pub use Rattle.meta_log.specs.Prelude.{IsSuper, LiesInRecord, active_unit, other_unit, other_slot, given_from, in_run, in_runs, piece_count, piece_first, piece_units, record_units, unit_count, check_units}
+pub use Rattle.meta_log.specs.declared.runs.UnitRun.{UnitRun}
+pub use Rattle.meta_store.specs.Store.{Begun, Checking, Meta}
 pub use Rattle.plan_rows.specs.declared.plan.FreshUnit.{FreshUnit}
 pub use Rattle.store_steps.specs.Ready.{is_flushed}
 pub use Rattle.store_steps.specs.declared.context.Context.{Context}

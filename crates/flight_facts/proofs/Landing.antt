@@ -1,17 +1,34 @@
 -- What flies but for one: which it was, and what is left, by part.
-use Rattle.std.proofs.Common.{◌≡◌, ℕ, ◌+◌, Bool, true, false, cond, not, ◌==◌, List, [], ◌∷◌, ◌++◌, length, map, Some, refl, ap, subst, ◌∙◌, arith}
-use Rattle.flight_facts.proofs.Common.{AllByRecursion, eqb-true, Flight, without, Ticket, Context, Flying, Meta}
+use Rattle.std.proofs.Common.{◌≡◌, ℕ, ◌+◌, Bool, true, false, cond, not, ◌==◌, List, [], ◌∷◌, ◌++◌, length, map, Some, refl, sym, ap, subst, ◌∙◌, arith}
+use Rattle.flight_facts.proofs.Common.{AllByRecursion, eqb-true, Flight, without, Ticket, Context, Flying, Job, Meta}
 use Rattle.std.proofs.lemmas.List.Elements.{filter-append}
 use Rattle.store_steps.specs.Prelude.{flying_of}
-use Rattle.flight_facts.specs.Prelude.{AreFlights, units_flying, is_data, log_flying, IsOfJob, AreOfJobs}
+use Rattle.flight_facts.specs.Prelude.{AreFlights, units_flying, flying_for, IsOfJob, AreOfJobs}
 use Rattle.flight_facts.proofs.Flying.{others_of, none_out}
 
 pub units_both : (place : ℕ) (xs ys : List Flying) → units_flying place (xs ++ ys) ≡ units_flying place xs + units_flying place ys
 units_both place [] ys = omega arith
 units_both place (x ∷ xs) ys = omega (arith, units_both place xs ys)
 
-pub log_both : (xs ys : List Flying) → log_flying (xs ++ ys) ≡ log_flying xs ++ log_flying ys
-log_both xs ys = filter-append (λ (f : Flying). not (is_data f.job)) xs ys
+-- of a part
+pub part_both : (part : Job → Bool) (xs ys : List Flying) → flying_for part (xs ++ ys) ≡ flying_for part xs ++ flying_for part ys
+part_both part xs ys = filter-append (λ (f : Flying). part f.job) xs ys
+
+pub part_keep : (part : Job → Bool) (f : Flying) (fs : List Flying) → part f.job ≡ true → flying_for part (f ∷ fs) ≡ f ∷ flying_for part fs
+part_keep part f fs is = ap (λ (b : Bool). cond b (f ∷ flying_for part fs) (flying_for part fs)) is
+
+pub part_skip : (part : Job → Bool) (f : Flying) (fs : List Flying) → part f.job ≡ false → flying_for part (f ∷ fs) ≡ flying_for part fs
+part_skip part f fs is = ap (λ (b : Bool). cond b (f ∷ flying_for part fs) (flying_for part fs)) is
+
+-- where nothing of a part flies, all that flies is of others
+pub none_of_part : (part : Job → Bool) (fs : List Flying) → flying_for part fs ≡ [] → AllByRecursion (λ f. part f.job ≡ false) fs
+none_of_part part [] none = tt
+none_of_part part (f ∷ fs) none = of_test (λ e. none_of_part part fs e) (part f.job) refl none
+  where
+    of_test : (flying_for part fs ≡ [] → AllByRecursion (λ g. part g.job ≡ false) fs) → (b : Bool) → part f.job ≡ b
+        → cond b (f ∷ flying_for part fs) (flying_for part fs) ≡ [] → (part f.job ≡ false) × AllByRecursion (λ g. part g.job ≡ false) fs
+    of_test rest true e n = absurd (cc)
+    of_test rest false e n = (e, rest n)
 
 -- the one of this ticket, and the others
 pub record IsLeftOut (ticket : Ticket) (fs : List Flying) : Type 0 where
@@ -49,6 +66,22 @@ left_out ticket (f ∷ fs) fewer = of_test (f.ticket.place == ticket.place) refl
           found = ap (λ (b : Bool). cond b (Some f) (flying_of ticket fs)) its ∙ out.found;
           left = ap (λ (b : Bool). cond (not b) (f ∷ others_of ticket fs) (others_of ticket fs)) its ∙ ap (λ (gs : List Flying). f ∷ gs) out.left;
         }
+
+-- what is left of a part
+pub part_with : (part : Job → Bool) (ticket : Ticket) (fs : List Flying) (out : IsLeftOut ticket fs) → part out.flight.job ≡ true
+    → flying_for part fs ≡ flying_for part out.front ++ out.flight ∷ flying_for part out.back
+part_with part ticket fs out is = ap (flying_for part) out.is ∙ part_both part out.front (out.flight ∷ out.back)
+    ∙ ap (λ (gs : List Flying). flying_for part out.front ++ gs) (part_keep part out.flight out.back is)
+
+pub part_rest : (part : Job → Bool) (ticket : Ticket) (fs : List Flying) (out : IsLeftOut ticket fs)
+    → flying_for part (others_of ticket fs) ≡ flying_for part out.front ++ flying_for part out.back
+part_rest part ticket fs out = ap (flying_for part) out.left ∙ part_both part out.front out.back
+
+pub part_stays : (part : Job → Bool) (ticket : Ticket) (fs : List Flying) (out : IsLeftOut ticket fs) → part out.flight.job ≡ false
+    → flying_for part (others_of ticket fs) ≡ flying_for part fs
+part_stays part ticket fs out is = part_rest part ticket fs out
+    ∙ ap (λ (gs : List Flying). flying_for part out.front ++ gs) (sym (part_skip part out.flight out.back is))
+    ∙ sym (part_both part out.front (out.flight ∷ out.back)) ∙ ap (flying_for part) (sym out.is)
 
 -- ---- what is touched, as submissions come and go
 

@@ -2,7 +2,7 @@
 use Rattle.std.proofs.Common.{◌≡◌, inl, inr, true, false, Option, Some, None, is_some, refl, ap, ◌∙◌}
 use Rattle.flight_facts.proofs.Common.{Disk, Ticket, Step}
 use Rattle.object_model.specs.declared.book.Book.{Book}
-use Rattle.store_steps.specs.declared.step.Step.TheVariants.{Data, Reap, Take, Flush, Record, Sync, Finish}
+use Rattle.store_steps.specs.declared.step.Step.TheVariants.{Data, Reap, Take, Flush, Record, Sync, Finish, CheckWrite, CheckFlush, SlotWrite, SlotFlush}
 use Rattle.store_steps.specs.Prelude.{State, down_by, Takes, Does, DoesOrFails}
 use Rattle.flight_facts.specs.Prelude.{DeviceGoes, rests, submits, takes_end, gives_none, BookStep, book_same, book_commits, book_acks}
 use Rattle.flight_facts.proofs.Ends.{good_end}
@@ -19,6 +19,12 @@ device_goes Data s d s' d' does = submits does.ticket.place _ does.submitted
 device_goes Flush s d s' d' does = submits does.ticket.place _ does.submitted
 device_goes Record s d s' d' does = submits does.ticket.place _ does.submitted
 device_goes Sync s d s' d' does = submits does.ticket.place _ does.submitted
+device_goes CheckWrite s d s' d' does = submits does.ticket.place _ does.submitted
+device_goes CheckFlush s d s' d' does = submits does.ticket.place _ does.submitted
+device_goes SlotWrite s d s' d' does = submits does.ticket.place _ does.submitted
+device_goes SlotFlush s d s' d' does = submits does.ticket.place _ does.submitted
+device_goes Take s d s' d' (inl batch) = rests batch.same
+device_goes Take s d s' d' (inr check) = rests check.same
 device_goes Reap s d s' d' (inl (inl took)) = takes_end took.ticket.place true took.ended
 device_goes Reap s d s' d' (inl (inr none)) = gives_none none.0
 device_goes Reap s d s' d' (inr took) = takes_end took.ticket.place false took.ended
@@ -30,7 +36,8 @@ pub book_step : (step : Step) (s : State) (d : Disk) (s' : State) (d' : Disk) �
 book_step Reap s d s' d' (inl (inl took)) = book_same (ap (λ (z : State). z.book) took.after ∙ (good_end took.ticket s).book)
 book_step Reap s d s' d' (inl (inr none)) = book_same (ap (λ (z : State). z.book) none.1)
 book_step Reap s d s' d' (inr took) = book_same (ap (λ (z : State). z.book) took.after)
-book_step Take s d s' d' does = book_commits does.context.place (ap (λ (z : State). z.book) does.after)
+book_step Take s d s' d' (inl batch) = book_commits batch.context.place (ap (λ (z : State). z.book) batch.after)
+book_step Take s d s' d' (inr check) = book_same (ap (λ (z : State). z.book) check.after)
 book_step Finish s d s' d' does = book_acks (ap (λ (z : State). z.book) does.after)
 book_step step s d s' d' does = book_same (ap (λ (z : State). z.book) does.after)
 
@@ -46,6 +53,8 @@ step_entries Finish s s' (book_acks is) = ap (λ (b : Book). b.entries) is
 pub stays_up : (step : Step) (s : State) (d : Disk) (s' : State) (d' : Disk) → Does step s d s' d' → s'.down ≡ s.down
 stays_up Reap s d s' d' (inl took) = ap (λ (z : State). z.down) took.after ∙ (good_end took.ticket s).down
 stays_up Reap s d s' d' (inr none) = ap (λ (z : State). z.down) none.1
+stays_up Take s d s' d' (inl batch) = ap (λ (z : State). z.down) batch.after
+stays_up Take s d s' d' (inr check) = ap (λ (z : State). z.down) check.after
 stays_up step s d s' d' does = ap (λ (z : State). z.down) does.after
 
 -- a bad end leaves it down

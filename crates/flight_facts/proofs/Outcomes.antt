@@ -1,16 +1,15 @@
 -- What a step leaves: it has stepped, or waited, or a submission has ended badly; and that it leaves less work.
-use Rattle.std.proofs.Common.{◌≡◌, inl, inr, ℕ, ◌+◌, ◌-◌, ◌*◌, ◌<◌, ◌==◌, true, false, not, List, [], ◌∷◌, length, Some, None, is_some, is_none, sym, ap, subst, ◌∙◌, arith}
-use Rattle.flight_facts.proofs.Common.{option_map_or, and_parts, Disk, Flight, Waited, Flying, Step, is_flushed}
-use Rattle.store_steps.specs.declared.step.Step.TheVariants.{Data, Reap, Take, Flush, Seal, Record, Sync, Commit, Finish}
-use Rattle.store_steps.specs.Prelude.{State, chosen, landed, is_ready, is_ready_up, is_ready_down, is_empty, pieces_of, applied_count, Takes, DoesOrFails}
-use Rattle.flight_facts.specs.Prelude.{AreFlights, FlightsMatch, sum_work, batch_work, work_left, measure, AreFlightsKnown}
+use Rattle.std.proofs.Common.{◌≡◌, inl, inr, ℕ, ◌+◌, ◌-◌, ◌*◌, ◌<◌, ◌==◌, true, false, not, List, [], ◌∷◌, length, Some, None, is_some, sym, ap, subst, ◌∙◌, arith}
+use Rattle.flight_facts.proofs.Common.{option_map_or, Disk, Flight, Waited, Flying, Step, is_flushed}
+use Rattle.store_steps.specs.declared.step.Step.TheVariants.{Data, Reap, Take, Flush, Seal, Record, Sync, Commit, Finish, CheckWrite, CheckFlush, SlotWrite, SlotFlush, Switch}
+use Rattle.store_steps.specs.Prelude.{State, landed, is_ready, is_ready_up, is_ready_down, is_empty, pieces_of, applied_count, Takes, DoesOrFails}
+use Rattle.flight_facts.specs.Prelude.{AreFlights, FlightsMatch, sum_work, batch_work, switch_work, check_due, work_left, measure, AreFlightsKnown}
 use Rattle.flight_facts.proofs.Flying.{others_of, Landed, landed_flight}
 use Rattle.flight_facts.proofs.Readiness.{Readiness, while_up, while_down, ready_cases}
-use Rattle.flight_facts.proofs.Matching.{Matches}
 use Rattle.flight_facts.proofs.Leaves.{down_is_some}
 use Rattle.flight_facts.proofs.Downs.{Ends, bad_end, late_end}
-use Rattle.flight_facts.proofs.MatchingSteps.{some_is, none_is, record_tests, sync_tests, seal_none, data_does, reap_does, take_does, flush_does, seal_does, record_does, sync_does, commit_does, finish_does, waited_does}
-use Rattle.flight_facts.proofs.Paying.{Paid, data_pays, reap_pays, take_pays, flush_pays, sync_pays, seal_pays, record_pays, commit_pays, finish_pays}
+use Rattle.flight_facts.proofs.MatchingSteps.{some_is, record_tests, sync_tests, seal_none, data_does, reap_does, take_does, flush_does, seal_does, record_does, sync_does, commit_does, finish_does, waited_does, check_does, check_flush_does, slot_does, slot_flush_does, switch_does}
+use Rattle.flight_facts.proofs.Paying.{Paid, data_pays, reap_pays, take_pays, flush_pays, sync_pays, seal_pays, record_pays, commit_pays, finish_pays, check_pays, check_flush_pays, slot_pays, slot_flush_pays, switch_pays}
 
 -- ---- an answer None
 
@@ -44,6 +43,7 @@ falls_with s d s' d' mirror e some =
     let land : Landed s.flying e.ticket d d' = landed_flight d d' e.ticket e.ok s.flying mirror e.ended in
     let falls : work_left u < work_left s =
     less (length (others_of e.ticket s.flying)) (length s.flying) (sum_work s.pending) (option_map_or (batch_work s.log) s.batch 0)
+    (option_map_or (switch_work s.log) s.switching (check_due s.log))
     (applied_count s - s.acked) land.fewer in
     record {
       ends = e;
@@ -51,8 +51,8 @@ falls_with s d s' d' mirror e some =
       falls = subst (λ (z : State). work_left z < work_left s) (sym e.after) falls;
     }
   where
-    less : (rest all a b c : ℕ) → rest + 1 ≡ all → rest + a + b + c < all + a + b + c
-    less rest all a b c is = omega (arith, is)
+    less : (rest all a b w c : ℕ) → rest + 1 ≡ all → rest + a + b + w + c < all + a + b + w + c
+    less rest all a b w c is = omega (arith, is)
 
 -- one ended badly; or well, while the kernel is down
 bad_falls : (s : State) (d : Disk) (s' : State) (d' : Disk) → AreFlights s.flying d.flights → Takes s d false s' d' → GoneDown s d s' d'
@@ -65,7 +65,7 @@ late_falls s d s' d' mirror some ended = falls_with s d s' d' mirror (late_end s
 -- ---- what a step that was ready leaves
 
 pub data StepOutcome (s : State) (d : Disk) (s' : State) (d' : Disk) : Type 0 where
-  has_stepped : s.down ≡ None → Paid s d s' d' → Matches s' d'.flights → StepOutcome s d s' d'
+  has_stepped : s.down ≡ None → Paid s d s' d' → FlightsMatch s' d'.flights → StepOutcome s d s' d'
   has_waited : Waited d d' → s' ≡ s → not (is_empty s.flying) ≡ true → StepOutcome s d s' d'
   has_gone_down : GoneDown s d s' d' → StepOutcome s d s' d'
 
@@ -78,23 +78,32 @@ up_leaves Reap s d s' d' k down ready (inl (inl ended)) =
 up_leaves Reap s d s' d' k down ready (inl (inr none)) = has_waited none.0 none.1 ready
 up_leaves Reap s d s' d' k down ready (inr ended) = has_gone_down (bad_falls s d s' d' k.tickets ended)
 up_leaves Take s d s' d' k down ready does =
-    let none : s.batch ≡ None = none_is s.batch (and_parts (is_none s.batch) (is_some (chosen s.pending)) ready).0 in
-    has_stepped down (take_pays s d s' d' k.tickets (k.parts down) (k.fits down) none does)
-    (take_does s d s' d' (k.parts down) (k.fits down) none does)
+    has_stepped down (take_pays s d s' d' k.tickets (k.parts down) (k.fits down) (k.checks down) ready does)
+    (take_does s d s' d' (k.parts down) (k.fits down) ready does)
 up_leaves Flush s d s' d' k down ready does =
     has_stepped down (flush_pays s d s' d' k.tickets ready does) (flush_does s d s' d' (k.parts down) ready does)
 up_leaves Seal s d s' d' k down ready does =
     has_stepped down (seal_pays s d s' d' k.tickets (seal_none s d.depth ready) does) (seal_does s d s' d' (k.parts down) ready does)
 up_leaves Record s d s' d' k down ready does =
     let b = some_is (λ b. is_flushed b.first) s.batch (record_tests s d.depth ready).0 in
-    has_stepped down (record_pays s d s' d' k.tickets b.0 b.1 ready does) (record_does s d s' d' (k.parts down) ready b.0 b.1 does)
+    has_stepped down (record_pays s d s' d' k.tickets (k.parts down) b.0 b.1 ready does) (record_does s d s' d' (k.parts down) ready b.0 b.1 does)
 up_leaves Sync s d s' d' k down ready does =
     let r = some_is (λ r. r.written == pieces_of s.log.number r) s.log.begun (sync_tests s d.depth ready).1 in
     has_stepped down (sync_pays s d s' d' k.tickets ready does) (sync_does s d s' d' (k.parts down) ready r.0 r.1 does)
 up_leaves Commit s d s' d' k down ready does =
-    has_stepped down (commit_pays s d s' d' k.tickets k.acked does) (commit_does s d s' d' (k.parts down) ready does)
+    has_stepped down (commit_pays s d s' d' k.tickets (k.parts down) k.acked does) (commit_does s d s' d' (k.parts down) ready does)
 up_leaves Finish s d s' d' k down ready does =
     has_stepped down (finish_pays s d s' d' k.tickets ready does) (finish_does s d s' d' (k.parts down) does)
+up_leaves CheckWrite s d s' d' k down ready does =
+    has_stepped down (check_pays s d s' d' k.tickets (k.parts down) ready does) (check_does s d s' d' (k.parts down) ready does)
+up_leaves CheckFlush s d s' d' k down ready does =
+    has_stepped down (check_flush_pays s d s' d' k.tickets (k.parts down) ready does) (check_flush_does s d s' d' (k.parts down) ready does)
+up_leaves SlotWrite s d s' d' k down ready does =
+    has_stepped down (slot_pays s d s' d' k.tickets (k.parts down) ready does) (slot_does s d s' d' (k.parts down) ready does)
+up_leaves SlotFlush s d s' d' k down ready does =
+    has_stepped down (slot_flush_pays s d s' d' k.tickets (k.parts down) ready does) (slot_flush_does s d s' d' (k.parts down) ready does)
+up_leaves Switch s d s' d' k down ready does =
+    has_stepped down (switch_pays s d s' d' k.tickets (k.parts down) ready does) (switch_does s d s' d' (k.parts down) ready does)
 
 down_leaves : (s : State) (d : Disk) (s' : State) (d' : Disk) → AreFlights s.flying d.flights → is_some s.down ≡ true → not (is_empty s.flying) ≡ true
     → DoesOrFails Reap s d s' d' → StepOutcome s d s' d'
@@ -152,12 +161,12 @@ tickets_match step s s' d d' k ready does = of_leaves (step_leaves step s d s' d
         (landed_flight d d' gone.ends.ticket gone.ends.ok s.flying k.tickets gone.ends.ended).flights
 
 pub parts_match : (step : Step) (s s' : State) (d d' : Disk) → AreFlightsKnown s d → is_ready step d.depth s ≡ true → DoesOrFails step s d s' d'
-    → s'.down ≡ None → FlightsMatch s'.log (length s'.book.entries) s'.pending s'.batch s'.flying d'.flights
+    → s'.down ≡ None → FlightsMatch s' d'.flights
 parts_match step s s' d d' k ready does down = of_leaves (step_leaves step s d s' d' k ready does)
   where
-    of_leaves : StepOutcome s d s' d' → Matches s' d'.flights
+    of_leaves : StepOutcome s d s' d' → FlightsMatch s' d'.flights
     of_leaves (has_stepped up paid matches) = matches
-    of_leaves (has_waited waited same some) = subst (λ (t : State). Matches t d'.flights) (sym same)
+    of_leaves (has_waited waited same some) = subst (λ (t : State). FlightsMatch t d'.flights) (sym same)
         (waited_does s d d' (k.parts (sym (ap (λ (t : State). t.down) same) ∙ down)) waited)
     of_leaves (has_gone_down gone) = absurd (let none = ap is_some down in let some = gone.down in cc)
 

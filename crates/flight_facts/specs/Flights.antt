@@ -1,41 +1,62 @@
--- What is in flight for the log: of the open batch a flush, then the pieces of its record, then a flush.
-use Rattle.std.specs.Prelude.{◌≡◌, ℕ, ◌+◌, ◌≤◌, List, [], ◌∷◌, length, map, Option, Some, None}
+-- What is in flight for the log: for the open batch, and for a switch of halves.
+use Rattle.std.specs.Prelude.{◌≡◌, ℕ, ◌+◌, ◌≤◌, List, [], ◌∷◌, length, map, Option, Some, None, IfSome}
 use Rattle.std.specs.List.{AllByRecursion}
+use Rattle.std.specs.Option.{option_map_or}
 use Rattle.block_device.specs.Prelude.{Flight}
-use Rattle.meta_rows.specs.declared.row_op.RowOp.{RowOp}
-use Rattle.store_steps.specs.declared.flight.FlushState.{FlushState}
-use Rattle.store_steps.specs.declared.flight.FlushState.TheVariants as flush
+use Rattle.meta_log.specs.Prelude.{unit_count, piece_count}
+use Rattle.store_steps.specs.declared.context.Context.{Context}
 use Rattle.store_steps.specs.declared.flight.Flying.{Flying}
 use Rattle.store_steps.specs.declared.flight.Job.TheVariants as job
-use Rattle.meta_store.specs.Store.{Begun}
+use Rattle.meta_store.specs.Store.{Begun, Checking}
+use Rattle.store_steps.specs.declared.flight.Switching.{Switching}
+use Rattle.store_steps.specs.Prelude.{Batch, batch_ops, sum_needs}
+use Rattle.flight_facts.specs.Stages.{Stage, by_one, by_pieces, AreInTurn}
 
 -- the tickets are those of the device's flights, in their order
 abbrev pub AreFlights : List Flying → List Flight → Type 0
 AreFlights flying flights = map (λ f. f.ticket.place) flying ≡ map (λ f. f.ticket) flights
 
--- a record whose pieces are not yet submitted, or that isn't made yet
-abbrev pub IsNotGiven : List RowOp → Option Begun → Type 0
-IsNotGiven ops None = Unit {0}
-IsNotGiven ops (Some r) = (r.ops ≡ ops) × (r.given ≡ 0) × (r.written ≡ 0)
+-- ---- the open batch
 
--- A record of so many pieces that isn't made, or is on its way: what is in flight are pieces of it, those that were given and haven't ended.
-abbrev pub IsWriting : ℕ → List RowOp → Option Begun → List Flying → Type 0
-IsWriting pieces ops None flying = flying ≡ []
-IsWriting pieces ops (Some r) flying = (r.ops ≡ ops) × (r.given ≤ pieces) × (r.written + length flying ≡ r.given)
-    × AllByRecursion (λ f. f.job ≡ job.Record) flying
+-- all units of a context have reached the device
+pub record IsAllGiven (x : Context) : Type 0 where
+  pub given : x.given ≡ length x.fresh
+  pub done : x.done ≡ length x.fresh
 
--- a record all of whose pieces have ended well
-abbrev pub IsWritten : ℕ → List RowOp → Option Begun → Type 0
-IsWritten pieces ops None = ⊥
-IsWritten pieces ops (Some r) = (r.ops ≡ ops) × (r.given ≡ pieces) × (r.written ≡ pieces)
+-- how many pieces its record has
+abbrev pub batch_pieces : ℕ → Batch → ℕ
+batch_pieces number b = piece_count (unit_count number (batch_ops b))
 
--- how far the open batch is, by its two flushes: the first, the record of so many pieces, the second
-abbrev pub IsUnderWay : FlushState → FlushState → ℕ → List RowOp → Option Begun → List Flying → Type 0
-IsUnderWay flush.NotSent flush.NotSent pieces ops begun flying = IsNotGiven ops begun × (flying ≡ [])
-IsUnderWay (flush.Sent ticket) flush.NotSent pieces ops begun flying =
-    IsNotGiven ops begun × (flying ≡ record { ticket = ticket; job = job.DataFlush } ∷ [])
-IsUnderWay flush.Flushed flush.NotSent pieces ops begun flying = IsWriting pieces ops begun flying
-IsUnderWay flush.Flushed (flush.Sent ticket) pieces ops begun flying =
-    IsWritten pieces ops begun × (flying ≡ record { ticket = ticket; job = job.RecordFlush } ∷ [])
-IsUnderWay flush.Flushed flush.Flushed pieces ops begun flying = IsWritten pieces ops begun × (flying ≡ [])
-IsUnderWay first second pieces ops begun flying = ⊥
+-- a flush, then its record of so many pieces, of which nothing is given while it isn't made, then a flush
+abbrev pub batch_stages : ℕ → Batch → Option Begun → List Stage
+batch_stages pieces b begun = by_one job.DataFlush b.first
+    ∷ by_pieces job.Record pieces (option_map_or (λ r. r.given) begun 0) (option_map_or (λ r. r.written) begun 0)
+    ∷ by_one job.RecordFlush b.second ∷ []
+
+-- its record is of its contexts' operations, takes no more than they need, and fits the half behind the tail; all of these are written, and its stages
+-- are so far
+pub record IsBatchOpen (half tail number : ℕ) (b : Batch) (begun : Option Begun) (flying : List Flying) : Type 0 where
+  pub needed : unit_count number (batch_ops b) ≤ sum_needs b.contexts
+  pub fits : tail + unit_count number (batch_ops b) ≤ half
+  pub written : AllByRecursion IsAllGiven b.contexts
+  pub made : IfSome begun (λ r. r.ops ≡ batch_ops b)
+  pub far : AreInTurn (batch_stages (batch_pieces number b) b begun) flying
+
+abbrev pub IsBatchFar : ℕ → ℕ → ℕ → Option Batch → Option Begun → List Flying → Type 0
+IsBatchFar half tail number None begun flying = (begun ≡ None) × (flying ≡ [])
+IsBatchFar half tail number (Some b) begun flying = IsBatchOpen half tail number b begun flying
+
+-- ---- a switch of halves
+
+-- a checkpoint of so many pieces, then a flush, then the next superblock, then a flush
+abbrev pub switch_stages : ℕ → Checking → Switching → List Stage
+switch_stages pieces c w = by_pieces job.Check pieces c.given c.written
+    ∷ by_one job.CheckFlush w.flush
+    ∷ by_one job.Slot w.slot
+    ∷ by_one job.SlotFlush w.slot_flush ∷ []
+
+-- a switch is under way where a checkpoint is open, and its stages are so far
+abbrev pub IsSwitchFar : ℕ → Option Checking → Option Switching → List Flying → Type 0
+IsSwitchFar pieces None None flying = flying ≡ []
+IsSwitchFar pieces (Some c) (Some w) flying = AreInTurn (switch_stages pieces c w) flying
+IsSwitchFar pieces check switching flying = ⊥

@@ -1,7 +1,9 @@
+pub mod Stages
 pub mod Flights
 pub mod Jobs
 pub mod Records
 pub mod Work
+pub mod Checks
 pub mod Known
 pub mod Leaves
 pub mod Prelude

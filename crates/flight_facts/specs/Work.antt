@@ -1,35 +1,43 @@
 -- How much is left to do: a number that each step lowers, so that a run of steps ends.
-use Rattle.std.specs.Prelude.{ℕ, ◌+◌, ◌-◌, ◌*◌, ◌^◌, List, [], ◌∷◌, length, if◌then◌else◌}
+use Rattle.std.specs.Prelude.{ℕ, ◌+◌, ◌-◌, ◌*◌, ◌^◌, ◌==◌, List, [], ◌∷◌, length, is_none, if◌then◌else◌}
 use Rattle.std.specs.Option.{option_map_or}
-use Rattle.meta_log.specs.Prelude.{unit_count, piece_count}
+use Rattle.meta_log.specs.Prelude.{piece_count, check_units}
 use Rattle.store_steps.specs.declared.context.Context.{Context}
 use Rattle.meta_store.specs.Store.{Meta}
-use Rattle.store_steps.specs.Prelude.{Batch, State, batch_ops, is_not_sent, applied_count}
+use Rattle.store_steps.specs.declared.flight.Switching.{Switching}
+use Rattle.store_steps.specs.Prelude.{Batch, State, applied_count, check_pieces}
+use Rattle.flight_facts.specs.Stages.{stages_work}
+use Rattle.flight_facts.specs.Flights.{batch_pieces, batch_stages, switch_stages}
 
--- a data write is submitted and ends; Take, two flushes that end, Seal, the pieces of a record that end, Commit and Finish
+-- more than a switch of halves costs: a checkpoint has at most 1024 pieces of its record and 65536 of zeros, each of which is submitted and ends
+abbrev pub check_most : ℕ
+check_most = 262144
+
+-- a data write is submitted and ends; Take, two flushes that end, Seal, the pieces of a record that end, Commit and Finish; and the checkpoint that
+-- may be due behind the commit
 abbrev pub work_of : Context → ℕ
-work_of x = 2 * (length x.fresh - x.given) + 8 + 2 * piece_count x.need
+work_of x = 2 * (length x.fresh - x.given) + 8 + 2 * piece_count x.need + check_most
 
 abbrev pub sum_work : List Context → ℕ
 sum_work [] = 0
 sum_work (x ∷ xs) = work_of x + sum_work xs
 
--- a flush that isn't submitted yet, and ends
-abbrev pub flush_work : Batch → ℕ
-flush_work b = (if is_not_sent b.first then 2 else 0) + (if is_not_sent b.second then 2 else 0)
-
--- Seal, and the pieces of the record that aren't submitted yet, and end
-abbrev pub record_work : Meta → Batch → ℕ
-record_work m b = option_map_or (λ r. 2 * (piece_count (unit_count m.number r.ops) - r.given)) m.begun
-    (1 + 2 * piece_count (unit_count m.number (batch_ops b)))
-
--- Commit, and a Finish for each context
+-- what is left of the stages, Seal, Commit, a Finish for each context, and the checkpoint that may be due behind the commit
 abbrev pub batch_work : Meta → Batch → ℕ
-batch_work m b = flush_work b + record_work m b + 1 + length b.contexts
+batch_work m b = stages_work (batch_stages (batch_pieces m.number b) b m.begun) + (if is_none m.begun then 1 else 0) + 1 + length b.contexts + check_most
+
+-- what is left of the stages, and Switch
+abbrev pub switch_work : Meta → Switching → ℕ
+switch_work m w = option_map_or (λ c. stages_work (switch_stages (length (check_pieces m)) c w)) m.check 0 + 1
+
+-- a checkpoint may come where the committed rows would take fewer units as one record than their log does
+abbrev pub check_due : Meta → ℕ
+check_due m = if m.tail == check_units m.number m.rows then 0 else check_most
 
 -- with what is in flight, and the commits that aren't acknowledged
 abbrev pub work_left : State → ℕ
-work_left s = length s.flying + sum_work s.pending + option_map_or (batch_work s.log) s.batch 0 + (applied_count s - s.acked)
+work_left s = length s.flying + sum_work s.pending + option_map_or (batch_work s.log) s.batch 0
+    + option_map_or (switch_work s.log) s.switching (check_due s.log) + (applied_count s - s.acked)
 
 -- what a run of steps lowers: work, or the answers None that a device may still give in a row
 abbrev pub measure : State → ℕ → ℕ
@@ -39,6 +47,6 @@ measure s waits = 65 * work_left s + (64 - waits)
 abbrev pub entry_work : ℕ
 entry_work = 8388608
 
--- what events and numbers of records stay below together with the work that is left: 2^61 more than entries may add
+-- what events, numbers of records and epochs stay below together with the work that is left: 2^61 more than a first checkpoint and entries may add
 abbrev pub budget : State → ℕ
-budget s = 2 ^ 61 + entry_work * length s.book.entries
+budget s = 2 ^ 61 + check_most + entry_work * length s.book.entries

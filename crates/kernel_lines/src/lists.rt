@@ -16,7 +16,7 @@ use plain_reader::{COLLS, Counts, Left, NAMES, Told, apply, coll_of, name_of, ob
 use plain_store::Plain;
 use std::alloc::Global;
 use store_kernel::Refused;
-use store_steps::ALL_STEPS;
+use store_steps::{ALL_STEPS, Step};
 use unit_fields::{CollName, Name};
 
 /// How many calls a list has, and the most lists of a line.
@@ -32,6 +32,7 @@ struct Met {
     down: bool,
     no_space: bool,
     meta_full: bool,
+    switched: bool,
     right: u64,
     wrong: u64,
 }
@@ -44,6 +45,7 @@ impl Met {
             down: false,
             no_space: false,
             meta_full: false,
+            switched: false,
             right: 0,
             wrong: 0,
         }
@@ -64,6 +66,10 @@ impl Met {
         }
     }
 
+    fn note_step(&mut self, step: Step) {
+        self.switched = self.switched || step == Step::Switch;
+    }
+
     fn note_answer(&mut self, is_right: bool) {
         if is_right {
             self.right = self.right.wrapping_add(1);
@@ -80,6 +86,7 @@ impl Met {
             (self.down, "Down"),
             (self.no_space, "NoSpace"),
             (self.meta_full, "MetaFull"),
+            (self.switched, "switches"),
             (self.right != 0, "reads"),
         ] {
             if is_met {
@@ -168,12 +175,13 @@ impl List {
 
     /// Does the first ready step from one on that is drawn.
     fn step(&mut self) {
-        let start = self.draws.below(9);
-        for more in 0..9u64 {
-            let at = start.wrapping_add(more) % 9;
+        let start = self.draws.below(14);
+        for more in 0..14u64 {
+            let at = start.wrapping_add(more) % 14;
             if let Some(step) = ALL_STEPS.get(at as usize)
                 && step_if_ready(self.alloc, &mut self.mounted.kernel, *step).is_some()
             {
+                self.met.note_step(*step);
                 return;
             }
         }
@@ -239,7 +247,8 @@ impl KernelLines {
         setup.lags = draws.lags(self.alloc)?;
         if draws.below(2) == 0 {
             let what = draws.word(&["write", "flush", "read"]);
-            let at = draws.below(16).wrapping_add(3);
+            let first = if what == "read" { 4 } else { 0 };
+            let at = draws.below(12).wrapping_add(first);
             let line = format!(in self.alloc; "{what} {at}")?;
             setup.fails.follow(Words::new(line.as_str()))?;
         }

@@ -13,7 +13,7 @@ const MOST_STEPS: u32 = 1000;
 const MOST_UNSHOWN: u32 = 100_000;
 
 /// Their names.
-static STEP_NAMES: [(&str, Step); 9] = [
+static STEP_NAMES: [(&str, Step); 14] = [
     ("Data", Step::Data),
     ("Reap", Step::Reap),
     ("Take", Step::Take),
@@ -23,6 +23,11 @@ static STEP_NAMES: [(&str, Step); 9] = [
     ("Sync", Step::Sync),
     ("Commit", Step::Commit),
     ("Finish", Step::Finish),
+    ("CheckWrite", Step::CheckWrite),
+    ("CheckFlush", Step::CheckFlush),
+    ("SlotWrite", Step::SlotWrite),
+    ("SlotFlush", Step::SlotFlush),
+    ("Switch", Step::Switch),
 ];
 
 /// Shows a step, and whether it failed.

@@ -27,9 +27,10 @@ flushed_batch xs = record { contexts = xs; first = Flushed; second = Flushed }
 abbrev pub ops_of : List Context → List RowOp
 ops_of xs = batch_ops (flushed_batch xs)
 
--- no record is being written, and one of its operations can be made and fits behind the tail
+-- neither a record nor a checkpoint is being written, and a record of its operations can be made and fits behind the tail
 pub record CanSeal (xs : List Context) (m : Meta) : Type 0 where
   pub idle : m.begun ≡ None
+  pub resting : m.check ≡ None
   pub sealable : IsSealable m.number (ops_of xs)
   pub fits : m.tail + unit_count m.number (ops_of xs) ≤ m.sup.half
 

@@ -8,14 +8,11 @@ ghost use Rattle.block_device.specs.Prelude.{IsSound, Rose};
 ghost use Rattle.meta_log.specs.Prelude.{IsAtFront};
 ghost use Rattle.log_replay.specs.HalfReading.{left_of, IsReader, IsNew, Skips, ReadsOn, HasNoRecord, MayStand, HasStale};
 
-use crate::stale::{add_stale, add_stale_between};
+use crate::stale::{MOST_UNITS, add_stale, add_stale_between};
 use block_device::{Device, Failed};
 use meta_log::{FoundRecord, read_record, record_units};
 use std::alloc::Global;
 use unit_fields::limits::UNIT_BYTES;
-
-/// The most units of one read.
-const MOST_UNITS: u32 = 64;
 
 // Takes the bytes before a place away.
 fn cut_front(bytes: &mut Vec<u8>, start: usize)

@@ -9,13 +9,10 @@ ghost use Rattle.meta_log.specs.Prelude.{IsSuper, other_unit, AreRunsFrom};
 ghost use Rattle.log_replay.specs.OtherHalf.{AreRunsOn, AreGathered, EndsLast, AddsUnit, AddsPiece, GathersBelow};
 ghost use Rattle.log_replay.specs.Opening.{IsAbout};
 
-use crate::stale::is_zero_unit;
+use crate::stale::{MOST_UNITS, is_zero_unit};
 use block_device::{Device, Failed};
 use meta_log::{Super, UnitRun};
 use std::alloc::{AllocError, Global};
-
-/// The most units of one read.
-const MOST_UNITS: u32 = 64;
 
 /// Runs of units, gathered unit by unit.
 #[derive(Drop)]

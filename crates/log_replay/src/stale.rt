@@ -10,7 +10,7 @@ use byte_maps::is_zero;
 use std::alloc::{AllocError, Global};
 
 /// The most units of one read.
-const MOST_UNITS: u32 = 64;
+pub const MOST_UNITS: u32 = 64;
 
 /// Whether unit k of the bytes is zero.
 pub fn is_zero_unit(bytes: &[u8], k: usize) -> bool

@@ -1,12 +1,13 @@
 -- The record of a checkpoint's rows, and what is left of it from piece to piece.
-use Rattle.std.proofs.Common.{◌≡◌, ℕ, ◌+◌, ◌<◌, ◌≤◌, ◌^◌, Bool, true, false, nat_lt, min, List, [], ◌∷◌, length, Option, Some, None, IfSome, refl, sym, ap, subst, ◌∙◌, if◌then◌else◌, arith}
+use Rattle.std.proofs.Common.{◌≡◌, ℕ, ◌+◌, ◌/◌, ◌<◌, ◌≤◌, ◌^◌, Bool, true, false, nat_lt, min, List, [], ◌∷◌, length, Option, Some, None, IfSome, refl, sym, ap, subst, ◌∙◌, if◌then◌else◌, arith}
 use Rattle.std.proofs.lemmas.Bool.{lt-ltb, le-ltb, ltb-true, ltb-false}
 use Rattle.std.proofs.lemmas.List.{nil_from_length}
 use Rattle.std.specs.FinMap as map
 use Rattle.byte_maps.specs.ByteMap.{byte_order}
+use Rattle.byte_maps.specs.Units.{units_for}
 use Rattle.meta_rows.specs.declared.row_op.RowOp.{RowOp}
-use Rattle.meta_rows.specs.Prelude.{Rows, rows_after, sets_of, row_sets, RowsFit, ops_bytes}
-use Rattle.meta_rows.proofs.SetLemmas.{rows_made, rows_fit}
+use Rattle.meta_rows.specs.Prelude.{Rows, rows_after, sets_of, row_sets, RowsFit, ops_bytes, rows_size}
+use Rattle.meta_rows.proofs.SetLemmas.{rows_made, rows_fit, row_sets_size}
 use Rattle.meta_log.specs.declared.slot.Super.{Super}
 use Rattle.meta_log.specs.Prelude.{unit_count, piece_count, units_of_records, one_record, check_records, check_units, TableRecord, sealed_of, sealed_units, IsSealable, IsSuper, next_super}
 use Rattle.meta_log.proofs.SealLemmas.{unit_count-some, length-record_bytes}
@@ -31,6 +32,12 @@ units_there number (op ∷ ops) some = omega (arith, unit_count-some number (op 
 pub some_units : (number : ℕ) (rows : Rows) → (rows ≡ map.empty → ⊥) → 0 < check_units number rows
 some_units number rows some =
     units_there number (row_sets rows) (λ none. some (sym (rows_made rows) ∙ ap (rows_after map.empty) none))
+
+-- as many as the size of the rows says
+pub units_by_size : (number : ℕ) (rows : Rows) → (rows ≡ map.empty → ⊥) → check_units number rows ≡ (24 + rows_size rows + 4095) / 4096
+units_by_size number rows some =
+    units_of_rows number rows (some_units number rows some)
+    ∙ ap units_for (length-record_bytes number (row_sets rows) ∙ ap (λ n. 24 + n) (row_sets_size rows))
 
 pub no_units : (number : ℕ) (rows : Rows) → rows ≡ map.empty → check_units number rows ≡ 0
 no_units number rows none =

@@ -21,7 +21,7 @@ pub none_open : (o : Option OpenCheck) (b : Bool) → b ≡ is_some o → b ≡ 
 none_open None b is none = refl
 none_open (Some c) b is none = cc
 
-none_checked : (o : Option OpenCheck) → option_map checking_of o ≡ None → o ≡ None
+pub none_checked : (o : Option OpenCheck) → option_map checking_of o ≡ None → o ≡ None
 none_checked None is = refl
 none_checked (Some c) is = cc
 
@@ -244,8 +244,7 @@ module _ (a : Inside) (c : OpenCheck) (sup : Super) (tail number : ℕ) (stale :
       ap (λ (s : Super). seen_as a s tail number begun stale.items) sup_is
       ∙ ap (λ (t : ℕ). seen_as a next t number begun stale.items) all
       ∙ ap (λ (n : ℕ). seen_as a next units n begun stale.items) count
-      ∙ ap (λ (b : Option Begun). seen_as a next units (a.number + length (check_records a.rows.rows)) b stale.items) (no_begun a c holds is)
-      ∙ ap (λ (r : List UnitRun). seen_as a next units (a.number + length (check_records a.rows.rows)) None r) (stale_is ∙ is_open.behind)
+      ∙ ap (λ (r : List UnitRun). seen_as a next units (a.number + length (check_records a.rows.rows)) begun r) (stale_is ∙ is_open.behind)
 
   pub switch_holds : Holds (after_switch a sup tail number stale)
   switch_holds =

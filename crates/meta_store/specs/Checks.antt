@@ -77,7 +77,6 @@ switched m = record m {
   sup = next_super m.sup m.number;
   tail = check_units m.number m.rows;
   number = m.number + length (check_records m.rows);
-  begun = None;
   stale = front_run m.tail;
   check = None;
 }

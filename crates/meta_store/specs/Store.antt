@@ -82,9 +82,9 @@ found_meta s rows tail number stale = record {
   check = None;
 }
 
--- the units that are neither taken nor set aside
+-- the units of a half that neither the rows take as one record, nor are set aside
 abbrev pub room_of : Meta → ℕ
-room_of m = m.sup.half - m.tail - m.reserved
+room_of m = m.sup.half - check_units m.number m.rows - m.reserved
 
 -- the store with a record begun, of which nothing is given
 abbrev pub with_begun : Meta → List RowOp → Meta

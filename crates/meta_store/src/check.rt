@@ -1,8 +1,8 @@
 //! A checkpoint of the rows, while its pieces are made.
-ghost use Rattle.std.specs.Prelude.{◌≡◌, ◌+◌, ◌^◌, ◌*◌, ◌<◌, nat_lt, slice_get, All, IfOk, IfSome, if◌then◌else◌};
+ghost use Rattle.std.specs.Prelude.{◌≡◌, ℕ, ◌+◌, ◌^◌, ◌*◌, ◌<◌, nat_lt, length, slice_get, All, IfOk, IfSome, if◌then◌else◌};
 ghost use Rattle.byte_maps.specs.Units.{zeros};
-ghost use Rattle.meta_rows.specs.Sets.{row_sets};
-ghost use Rattle.meta_log.specs.Prelude.{IsSealable, piece_count, sealed_units, sealed_of, front_run};
+ghost use Rattle.meta_rows.specs.Prelude.{ops_bytes, row_sets};
+ghost use Rattle.meta_log.specs.Prelude.{IsSealable, piece_count, sealed_units, sealed_of, check_units, front_run};
 ghost use Rattle.meta_store.specs.Checks.{record_left, units_left, left_bytes, left_then};
 ghost use Rattle.meta_store.specs.StoreInside.{IsOpen};
 
@@ -11,6 +11,9 @@ use meta_rows::RowTable;
 use std::alloc::{AllocError, Global};
 use unit_fields::UnitNo;
 use unit_fields::limits::UNIT_BYTES;
+
+// The bytes of a record before its operations.
+const HEAD_BYTES: usize = 24;
 
 /// A piece of a checkpoint: the unit of the device from which on it goes, its bytes, and what is left of the record of the rows once it is
 /// given, for `note_check_given`.
@@ -45,6 +48,17 @@ fn record_of(alloc: Global, number: u64, rows: &RowTable) -> Result<Option<RowsR
         return Ok(None);
     }
     Ok(Some(RowsRecord::begin(alloc, number, rows)?))
+}
+
+/// How many units the rows take as one record, whatever its number is: none where there are no rows.
+pub fn units_of_rows(rows: &RowTable) -> u32
+    requires { length (ops_bytes (row_sets rows.now.rows)) < 2 ^ 32 }
+    ensures { (number : ℕ) → result ≡ check_units number rows.now.rows }
+{
+    if rows.is_empty() {
+        return 0;
+    }
+    ((HEAD_BYTES + rows.size() as usize + (UNIT_BYTES - 1)) / UNIT_BYTES) as u32
 }
 
 // How many units the record takes, if there is one.

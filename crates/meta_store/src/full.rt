@@ -8,6 +8,6 @@ use thiserror::Error;
 pub struct MetaFull {
     /// The units that were asked for.
     pub need: u32,
-    /// The units that are neither taken nor set aside.
+    /// The units of a half that neither the rows take as one record, nor are set aside.
     pub room: u32,
 }

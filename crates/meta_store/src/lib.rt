@@ -6,8 +6,8 @@
 //! A checkpoint writes all rows as one record into the half of the log that isn't in use, and zeros over what is stale there; then the
 //! halves change places. No record is written meanwhile.
 //!
-//! Proved: each call is an equation of the record `Meta`; MetaFull exactly where the units asked for are more than the room. The
-//! pieces of a checkpoint make the other half the record of the rows, with zeros behind it.
+//! Proved: each call is an equation of the record `Meta`; MetaFull exactly where the units asked for are more than the room. Each
+//! piece of a checkpoint has the units that the other half is to hold there: those of the record of the rows, and zeros behind it.
 #![tactic(auto)]
 
 mod check;

@@ -4,13 +4,13 @@
 //! too.)
 ghost use Rattle.std.specs.Prelude.{◌≡◌, ◌↔◌, ◌+◌, ◌-◌, ◌<◌, ◌≤◌, None, IsTrue, IfOk, IfErr, IfSome, OnOk, OnErr, OnSome, MatchOption};
 ghost use Rattle.meta_rows.specs.Sets.{RowsFit};
-ghost use Rattle.meta_log.specs.Prelude.{IsSuper, active_unit, sealed_units, AreRunsFrom};
+ghost use Rattle.meta_log.specs.Prelude.{IsSuper, active_unit, sealed_units, check_units, AreRunsFrom};
 ghost use Rattle.meta_store.specs.Store.{IsMeta, found_meta, room_of, with_begun, with_given, with_written, after_flush};
 ghost use Rattle.meta_store.specs.Store.{IsAllGiven, IsPieceLeft, IsPieceOut, IsAllWritten, IsNextPiece, LiesBehindTail};
 
 mod checking;
 
-use crate::check::OpenCheck;
+use crate::check::{OpenCheck, units_of_rows};
 use crate::full::MetaFull;
 use meta_log::{SealedRecord, Super, UnitRun};
 use meta_rows::RowTable;
@@ -114,18 +114,21 @@ impl MetaStore {
         self.number
     }
 
-    /// The units of the active half that are neither taken by records nor set aside.
+    /// The units of a half that neither the rows take as one record nor are set aside. What stands in the log beyond that record is no room
+    /// that is lost: a checkpoint leaves it behind.
     pub fn room(&self) -> u32
+        requires { check_units self.now.number self.now.rows ≤ self.now.sup.half }
         ensures { result ≡ room_of self.now }
     {
         self.sup
             .half
-            .saturating_sub(self.tail)
+            .saturating_sub(units_of_rows(&self.rows))
             .saturating_sub(self.reserved)
     }
 
     /// Sets units aside for the record of a transaction, if there is room for so many.
     pub fn reserve(&mut self, units: u32) -> Result<(), MetaFull>
+        requires { check_units self.old.number self.old.rows ≤ self.old.sup.half }
         ensures ok { OnOk result (units ≤ room_of self.old) }
         ensures set_aside { OnOk result (self.new ≡ record self.old { reserved = self.old.reserved + units }) }
         ensures full { OnErr result (room_of self.old < units) }
@@ -155,10 +158,11 @@ impl MetaStore {
         self.begun.is_none()
     }
 
-    /// Begins to write a record behind the tail, and makes the room in the rows that its operations take. Where memory runs out, or a
-    /// checkpoint is being written, the record comes back. (Ceph: a synchronous submission of a write batch to RocksDB.)
+    /// Begins to write a record behind the tail, and makes the room in the rows that its operations take. Where memory runs out the record
+    /// comes back. (Ceph: a synchronous submission of a write batch to RocksDB.)
     pub fn begin(&mut self, sealed: SealedRecord) -> Result<(), AllocFailed<SealedRecord>>
         requires idle { self.old.begun ≡ None }
+        requires resting { self.old.check ≡ None }
         requires next { sealed.number ≡ self.old.number }
         requires fits { self.old.tail + sealed_units sealed ≤ self.old.sup.half }
         ensures ok { OnOk result (self.new ≡ with_begun self.old sealed.ops) }
@@ -166,9 +170,6 @@ impl MetaStore {
         ensures back { IfErr result (λ failed. failed.value ≡ sealed) }
     {
         let _units = sealed.units();
-        if self.check.is_some() {
-            return Err(AllocFailed { value: sealed });
-        }
         match self.rows.reserve(sealed.ops().len()) {
             Ok(()) => {
                 self.begun = Some(BegunRecord {

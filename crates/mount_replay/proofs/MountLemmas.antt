@@ -168,7 +168,10 @@ module _ (s : FoundStore) (d : Disk) (sound : IsSound d) (found : IsFoundOn d s)
     units_are = same;
     number = omega (arith, judged.numbers.1);
     tail = found.tail;
+    epoch = omega (arith, judged.numbers.0);
     within = found.within;
+    spelled = found.fit;
+    stale = other.apart;
     good = judged.good;
     space = judged.units;
     counted = counted_none s.sup s.log.rows.rows space judged.idle;

@@ -3,11 +3,12 @@ use Rattle.std.proofs.Common.{◌≡◌, ℕ, zero, suc, ◌+◌, ◌*◌, ◌%�
 use Rattle.run_facts.proofs.Common.{AllByRecursion, option_map_or, Disk, RowOp, Super, unit_count, active_unit, IsDataUnit, FreshUnit, Context, Begun}
 use Rattle.std.proofs.lemmas.List.Elements.{Contains-append_left, Contains-append_right}
 use Rattle.unit_allocator.proofs.Lists.{Contains-head, Contains-tail}
-use Rattle.meta_log.specs.Prelude.{data_unit}
+use Rattle.meta_log.specs.Prelude.{data_unit, other_unit, other_slot}
+use Rattle.meta_store.specs.Store.{Checking}
 use Rattle.space_facts.proofs.Prelude.{times, times_append, times_some}
 use Rattle.store_steps.specs.Prelude.{Batch, State, uncommitted, all_fresh, given_fresh}
-use Rattle.flight_facts.specs.Prelude.{IsNone, IsGivenPiece}
-use Rattle.flight_facts.proofs.Prelude.{all_left, all_right, all_join, all_take, all_then}
+use Rattle.flight_facts.specs.Prelude.{IsNone, IsGivenPiece, IsGivenRun, IsNoTarget}
+use Rattle.flight_facts.proofs.Prelude.{all_left, all_right, all_join, all_take, all_then, no_switch, rests_switch}
 use Rattle.run_facts.specs.Prelude.{IsKept, IsKeptUp}
 use Rattle.run_facts.proofs.PartsKept.{flat_intents}
 use Rattle.run_facts.proofs.Conditions.{IsMade, made_batch, has_record}
@@ -62,6 +63,14 @@ given_taken P xs all = given_of_all (λ f. P f.unit) xs (taken_fresh P xs all)
 
 half_before : (sup : Super) → active_unit sup + sup.half ≤ data_unit sup
 half_before sup = of_half (sup.epoch % 2) (omega arith)
+  where
+    of_half : (which : ℕ) → which < 2 → 2 + sup.half * which + sup.half ≤ 2 + 2 * sup.half
+    of_half zero lt = omega arith
+    of_half (suc zero) lt = omega arith
+    of_half (suc (suc n)) lt = absurd (omega (arith, lt))
+
+other_before : (sup : Super) → other_unit sup + sup.half ≤ data_unit sup
+other_before sup = of_half (other_slot sup) (omega arith)
   where
     of_half : (which : ℕ) → which < 2 → 2 + sup.half * which + sup.half ≤ 2 + 2 * sup.half
     of_half zero lt = omega arith
@@ -126,6 +135,28 @@ module _ (s : State) (d : Disk) (kept : IsKept s d) (up : s.down ≡ None) where
       subst (λ (ops : List RowOp). s.log.tail + unit_count s.log.number ops ≤ s.log.sup.half) (sym made.ops)
       (has_record s d made.batch kept.always kept_up made.is_open).room
 
+  -- no unit before the data units is one that a context gave
+  pub log_not_given : (unit : ℕ) → unit < data_unit s.log.sup → AllByRecursion (λ x. IsNone (take x.given x.fresh) unit) s.pending
+  log_not_given unit below = all_then (λ x. AllByRecursion (λ f. IsDataUnit s.log.sup f.unit) x.fresh)
+      (λ x. IsNone (take x.given x.fresh) unit) (λ x on. front x.given x.fresh on) s.pending (pending_on_data s d kept up)
+    where
+      never : (u unit first : ℕ) → first ≤ u → u ≡ unit → unit < first → ⊥
+      never u unit first low is lt = omega (arith, low, is, lt)
+
+      front : (k : ℕ) (fs : List FreshUnit) → AllByRecursion (λ f. IsDataUnit s.log.sup f.unit) fs → IsNone (take k fs) unit
+      front zero fs on = tt
+      front (suc k) [] on = tt
+      front (suc k) (f ∷ fs) on = ((λ same. never f.unit unit (data_unit s.log.sup) (on.0).0 same below), front k fs on.1)
+
+  pub other_not_given : (k : ℕ) → k < s.log.sup.half → AllByRecursion (λ x. IsNone (take x.given x.fresh) (other_unit s.log.sup + k)) s.pending
+  other_not_given k below = log_not_given (other_unit s.log.sup + k) (before (other_unit s.log.sup) k s.log.sup.half (data_unit s.log.sup) below (other_before s.log.sup))
+    where
+      before : (other k half first : ℕ) → k < half → other + half ≤ first → other + k < first
+      before other k half first lt le = omega (arith, lt, le)
+
+  pub slot_not_given : AllByRecursion (λ x. IsNone (take x.given x.fresh) (other_slot s.log.sup)) s.pending
+  slot_not_given = log_not_given (other_slot s.log.sup) (omega arith)
+
   -- so no data unit is one of its units
   pub not_in_record : (u : ℕ) → IsDataUnit s.log.sup u → IfSome s.log.begun (λ r. ¬ IsGivenPiece s.log r u)
   not_in_record u on = of_begun s.log.begun refl
@@ -141,17 +172,42 @@ module _ (s : State) (d : Disk) (kept : IsKept s d) (up : s.down ≡ None) where
   -- and no unit of the half is one that a context gave
   pub not_given : (j : ℕ) → s.log.tail + j < s.log.sup.half
       → AllByRecursion (λ x. IsNone (take x.given x.fresh) (active_unit s.log.sup + (s.log.tail + j))) s.pending
-  not_given j below = all_then (λ x. AllByRecursion (λ f. IsDataUnit s.log.sup f.unit) x.fresh)
-      (λ x. IsNone (take x.given x.fresh) (active_unit s.log.sup + (s.log.tail + j))) (λ x on. front x.given x.fresh on) s.pending (pending_on_data s d kept up)
+  not_given j below = log_not_given (active_unit s.log.sup + (s.log.tail + j))
+      (before (active_unit s.log.sup) (s.log.tail + j) s.log.sup.half (data_unit s.log.sup) below (half_before s.log.sup))
     where
-      never : (unit active at half first : ℕ) → first ≤ unit → unit ≡ active + at → at < half → active + half ≤ first → ⊥
-      never unit active at half first low is lt before = omega (arith, low, is, lt, before)
+      before : (active at half first : ℕ) → at < half → active + half ≤ first → active + at < first
+      before active at half first lt le = omega (arith, lt, le)
 
-      front : (k : ℕ) (fs : List FreshUnit) → AllByRecursion (λ f. IsDataUnit s.log.sup f.unit) fs
-          → IsNone (take k fs) (active_unit s.log.sup + (s.log.tail + j))
-      front zero fs on = tt
-      front (suc k) [] on = tt
-      front (suc k) (f ∷ fs) on = (
-        λ same. never f.unit (active_unit s.log.sup) (s.log.tail + j) s.log.sup.half (data_unit s.log.sup) (on.0).0 same below (half_before s.log.sup),
-        front k fs on.1,
-      )
+  -- so no job may touch a data unit that no context gave
+  pub data_no_target : (u : ℕ) → IsDataUnit s.log.sup u → AllByRecursion (λ x. IsNone (take x.given x.fresh) u) s.pending → IsNoTarget s.log s.pending u
+  data_no_target u on none = record {
+    waiting = none;
+    piece = not_in_record u on;
+    run = of_check s.log.check;
+    slot = λ is. never u (other_slot s.log.sup) (data_unit s.log.sup) on.0 is (omega arith);
+  }
+    where
+      never : (u unit first : ℕ) → first ≤ u → u ≡ unit → unit < first → ⊥
+      never u unit first low is lt = omega (arith, low, is, lt)
+
+      far : (u other k half first : ℕ) → first ≤ u → u ≡ other + k → k < half → other + half ≤ first → ⊥
+      far u other k half first low is lt le = omega (arith, low, is, lt, le)
+
+      of_check : (o : Option Checking) → IfSome o (λ c. ¬ IsGivenRun s.log c u)
+      of_check None = tt
+      of_check (Some c) = λ run. far u (other_unit s.log.sup) run.k s.log.sup.half (data_unit s.log.sup) on.0 run.is run.within (other_before s.log.sup)
+
+  -- nor, while a batch is open, a unit of the half that isn't a given piece of its record
+  pub record_no_target : (b : Batch) → s.batch ≡ Some b → (j : ℕ) → s.log.tail + j < s.log.sup.half
+      → IfSome s.log.begun (λ r. ¬ IsGivenPiece s.log r (active_unit s.log.sup + (s.log.tail + j)))
+      → IsNoTarget s.log s.pending (active_unit s.log.sup + (s.log.tail + j))
+  record_no_target b is j below piece = record {
+    waiting = not_given j below;
+    piece = piece;
+    run = subst (λ (o : Option Checking). IfSome o (λ c. ¬ IsGivenRun s.log c (active_unit s.log.sup + (s.log.tail + j))))
+        (sym (rests_switch s d.flights kept_up.flights (no_switch s d.flights b kept_up.flights is)).0) tt;
+    slot = λ same. never (active_unit s.log.sup) (s.log.tail + j) (other_slot s.log.sup) same (omega arith) (omega arith);
+  }
+    where
+      never : (active at slot : ℕ) → active + at ≡ slot → 2 ≤ active → slot < 2 → ⊥
+      never active at slot is low lt = omega (arith, is, low, lt)

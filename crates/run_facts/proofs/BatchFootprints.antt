@@ -1,11 +1,11 @@
 -- The footprints of the steps of a batch: Take, Flush, Seal, Record, Sync; and of Finish.
-use Rattle.std.proofs.Common.{◌≡◌, true, ℕ, ◌+◌, ◌-◌, ◌*◌, ◌≤◌, List, [], ◌∷◌, ◌++◌, length, Option, Some, None, refl, sym, ap, subst, ◌∙◌, arith, length-append, map, take}
+use Rattle.std.proofs.Common.{◌≡◌, inl, inr, true, ℕ, ◌+◌, ◌-◌, ◌*◌, ◌≤◌, List, [], ◌∷◌, ◌++◌, length, Option, Some, None, refl, sym, ap, subst, ◌∙◌, arith, length-append, map, take}
 use Rattle.run_facts.proofs.Common.{option_map_or, Disk, RowOp, unit_count, record_units, active_unit, piece_first, piece_units, given_from, LiesInRecord, Context, FreshUnit, Begun, Ascends}
 use Rattle.byte_maps.specs.Units.{units_from}
 use Rattle.meta_log.proofs.PieceLemmas.{given_from-none}
 use Rattle.log_facts.specs.Prelude.{not_sent}
 use Rattle.store_steps.specs.declared.step.Step.TheVariants as step
-use Rattle.store_steps.specs.Prelude.{Batch, State, batch_ops, finished, taken_up, flush_sent, sync_sent, commit_of, acknowledged, is_ready, DoesTake, DoesFlush, DoesSeal, DoesRecord, DoesSync, DoesFinish, piece_unit, piece_bytes, uncommitted, given_fresh, begun_ops, submitted_from, second_flush, Intent, intent_of, intents, is_in, data_part, half_part, book_part, Adds, nothing, flushes, on_half, Touch, IsPlaced, Footprint}
+use Rattle.store_steps.specs.Prelude.{Batch, State, batch_ops, finished, taken_up, flush_sent, sync_sent, commit_of, acknowledged, is_ready, OpensBatch, DoesTake, DoesFlush, DoesSeal, DoesRecord, DoesSync, DoesFinish, piece_unit, piece_bytes, uncommitted, given_fresh, begun_ops, submitted_from, second_flush, Intent, intent_of, intents, is_in, data_part, half_part, book_part, Adds, nothing, flushes, on_half, Touch, IsPlaced, Footprint}
 use Rattle.store_steps.specs.RowsGo as rows
 use Rattle.store_steps.specs.DataGoes as units
 use Rattle.store_steps.specs.HalfGoes as half
@@ -16,6 +16,7 @@ use Rattle.run_facts.specs.Prelude.{IsKept}
 use Rattle.run_facts.proofs.Conditions.{HasRecord, ReadyRecord, number_low, take_none}
 use Rattle.run_facts.proofs.Known.{flush_covers, sync_covers, known_seal, known_record, piece_lies, piece_size}
 use Rattle.run_facts.proofs.OtherHalf.{placed_elsewhere}
+use Rattle.run_facts.proofs.SwitchFootprints.{begin_footprint}
 use Rattle.run_facts.proofs.PartsKept.{book_alone, device_alone, intents_both, given_both}
 use Rattle.space_facts.proofs.Prelude.{first_taken}
 use Rattle.selections.specs.Fair.{IsComplete}
@@ -53,12 +54,12 @@ module _ (s : State) (x : Context) (none : s.batch ≡ None) (at : IsFirst [] x 
       less : (n m : ℕ) → m ≡ n + 1 → m - 1 ≡ n - 0
       less n m is = omega (arith, is)
 
-pub take_footprint : (s : State) (d : Disk) (s' : State) (d' : Disk) → IsKept s d → is_ready step.Take d.depth s ≡ true → DoesTake s d s' d'
+open_footprint : (s : State) (d : Disk) (s' : State) (d' : Disk) → IsKept s d → is_ready step.Take d.depth s ≡ true → OpensBatch s d s' d'
     → Footprint s d s' d'
-take_footprint s d s' d' kept ready does =
+open_footprint s d s' d' kept ready does =
     let x : Context = does.context in
     let up : s.down ≡ None = ready_not_down s d.depth step.Take refl ready in
-    let none : s.batch ≡ None = take_none s d.depth (ready_by_table s d.depth step.Take up ready) in
+    let none : s.batch ≡ None = (take_none s d.depth (ready_by_table s d.depth step.Take up ready)).0 in
     let at : IsFirst [] x s.pending = chosen_first [] s.pending x does.is_chosen in
     let places : Ascends (map (λ (z : Context). z.place) s.pending) = (kept.up up).flights.places.ascend in
     subst (λ (t : State). Footprint s d t d') (sym does.after) (record {
@@ -77,8 +78,13 @@ take_footprint s d s' d' kept ready does =
             applied = n;
             batch = intent_of x ∷ [];
           }) (applied_as_before s x none at places));
-      caused = record { ready = ready; does = record { context = x; is_chosen = does.is_chosen; after = refl; same = does.same } };
+      caused = record { ready = ready; does = inl (record { context = x; is_chosen = does.is_chosen; fits = does.fits; after = refl; same = does.same }) };
     })
+
+pub take_footprint : (s : State) (d : Disk) (s' : State) (d' : Disk) → IsKept s d → is_ready step.Take d.depth s ≡ true → DoesTake s d s' d'
+    → Footprint s d s' d'
+take_footprint s d s' d' kept ready (inl batch) = open_footprint s d s' d' kept ready batch
+take_footprint s d s' d' kept ready (inr check) = begin_footprint s d s' d' kept ready check
 
 -- ---- the two flushes
 
@@ -88,7 +94,7 @@ flush_footprint s d s' d' kept ready does =
     let b : Batch = does.batch in
     subst (λ (t : State). Footprint s d t d') (sym does.after)
     (subst (λ (o : Option Batch). (let t : State = record s { batch = o } in Footprint t d (flush_sent b does.ticket t) d')) (sym does.begun)
-    (device_alone (record s { batch = Some b }) d _ d' (flushes does.ticket.place) does.submitted tt refl refl
+    (device_alone (record s { batch = Some b }) d _ d' (flushes does.ticket.place) does.submitted tt tt refl refl
     (units.flushes_batch does.ticket.place (flush_covers s d b kept ready does.begun) refl) (half.same tt refl) refl refl))
 
 pub sync_footprint : (s : State) (d : Disk) (s' : State) (d' : Disk) → IsKept s d → is_ready step.Sync d.depth s ≡ true → DoesSync s d s' d'
@@ -100,7 +106,7 @@ sync_footprint s d s' d' kept ready does =
     let second : second_flush (Some b) ≡ not_sent = ap second_flush (sym does.begun) ∙ is.0 in
     subst (λ (t : State). Footprint s d t d') (sym does.after)
     (subst (λ (o : Option Batch). (let t : State = record s { batch = o } in Footprint t d (sync_sent b does.ticket t) d')) (sym does.begun)
-    (device_alone (record s { batch = Some b }) d _ d' (flushes does.ticket.place) does.submitted tt refl refl (units.same tt refl)
+    (device_alone (record s { batch = Some b }) d _ d' (flushes does.ticket.place) does.submitted tt tt refl refl (units.same tt refl)
     (half.syncs does.ticket.place is.1.0.ops (ap begun_ops is.1.1) second (λ j low high. sync_covers s d is.1.0 j kept ready is.1.1 high) refl) refl refl))
 
 -- ---- the record
@@ -113,7 +119,7 @@ seal_footprint s d s' d' kept ready does =
     let up : s.down ≡ None = ready_not_down s d.depth step.Seal refl ready in
     let none : s.log.begun ≡ None = seal_none s d.depth (ready_by_table s d.depth step.Seal up ready) in
     let second : second_flush s.batch ≡ not_sent = unsealed_second s d.flights (kept.up up).flights none in
-    subst (λ (t : State). Footprint s d t d') (sym does.after) (device_alone s d _ d' nothing (rests d d' does.same) tt (omega arith) refl (units.same tt refl)
+    subst (λ (t : State). Footprint s d t d') (sym does.after) (device_alone s d _ d' nothing (rests d d' does.same) tt tt (omega arith) refl (units.same tt refl)
     (half.begins ops (ap begun_ops none) (record { number_below = number_low s d kept.always; body_below = r.body; fit = r.fit }) r.room
     (ap (λ (n : ℕ). record (half_part s) { begun = Some ops; from = n }) (given_from-none (unit_count s.log.number ops))
     ∙ ap (λ f. record (half_part s) { begun = Some ops; from = unit_count s.log.number ops; second = f }) second)) refl refl)
@@ -179,7 +185,7 @@ record_footprint s d s' d' kept ready does =
             ∙ ap (λ (n : ℕ). units_from (from s d r lying) (n - from s d r lying) (record_units s.log.number r.ops)) (sym (ap (submitted_from s.log.number) does.begun));
         then = ap (λ o. record (half_part s) { begun = o; from = from s d r lying }) (sym (ap begun_ops does.begun));
       });
-      other = other.same (placed_elsewhere s.log.sup piece placed) refl;
+      other = other.same (placed_elsewhere s.log.sup piece tt placed) refl;
       book = book.same refl;
       caused = tt;
     })

@@ -4,18 +4,21 @@ use Rattle.run_facts.proofs.Common.{AllByRecursion, Disk, RowOp, rows_after, giv
 use Rattle.std.proofs.lemmas.List.{take_all}
 use Rattle.meta_log.proofs.PieceLemmas.{given_from-all}
 use Rattle.store_steps.specs.declared.step.Step.TheVariants as step
-use Rattle.store_steps.specs.Prelude.{Batch, State, batch_ops, batch_released, sum_needs, log_after, committed_batch, is_ready, DoesCommit, all_fresh, given_fresh, begun_ops, submitted_from, Intent, intents, ops_by, released_by, needs_by, RowsPart, rows_part, nothing, Footprint}
+use Rattle.store_steps.specs.Prelude.{Batch, State, batch_ops, batch_released, sum_needs, log_after, check_pieces, other_check, other_part, committed_batch, is_ready, DoesCommit, all_fresh, given_fresh, begun_ops, submitted_from, Intent, intents, ops_by, released_by, needs_by, RowsPart, rows_part, nothing, Footprint}
 use Rattle.store_steps.specs.RowsGo as rows
 use Rattle.store_steps.specs.DataGoes as units
 use Rattle.store_steps.specs.HalfGoes as half
 use Rattle.store_steps.specs.BookGoes as book
+use Rattle.meta_log.specs.declared.runs.UnitRun.{UnitRun}
+use Rattle.switch_facts.specs.Prelude.{CheckPart}
 use Rattle.switch_facts.specs.OtherGoes as other
 use Rattle.flight_facts.specs.Prelude.{IsAllGiven}
-use Rattle.flight_facts.proofs.Prelude.{ready_not_down, ready_by_table, IsSynced, ready_synced}
+use Rattle.flight_facts.proofs.Prelude.{ready_not_down, ready_by_table, IsSynced, ready_synced, no_switch}
 use Rattle.run_facts.specs.Prelude.{IsKept}
 use Rattle.run_facts.proofs.Conditions.{HasRecord, ReadyCommit, needs_are}
 use Rattle.run_facts.proofs.Known.{known_commit, known_batch}
 use Rattle.run_facts.proofs.PartsKept.{flat_intents, intents_both}
+use Rattle.run_facts.proofs.SwitchFootprints.{none_open}
 
 -- all units of written contexts are given
 pub given_all : (xs ys : List Context) → AllByRecursion IsAllGiven xs → given_fresh (xs ++ ys) ≡ all_fresh xs ++ given_fresh ys
@@ -58,6 +61,12 @@ module _ (s : State) (b : Batch) (number : ℕ) where
         reserved = p.reserved - n;
       }) needs
 
+-- no checkpoint is written while a batch is open
+no_check : (s : State) (d : Disk) (b : Batch) → IsKept s d → s.down ≡ None → s.batch ≡ Some b → (pieces : List UnitRun)
+    → other_check pieces s.log.check s.switching ≡ None
+no_check s d b kept up is pieces =
+    ap (other_check pieces s.log.check) (no_switch s d.flights b (kept.up up).flights is) ∙ none_open pieces s.log.check
+
 pub commit_footprint : (s : State) (d : Disk) (s' : State) (d' : Disk) → IsKept s d → is_ready step.Commit d.depth s ≡ true → DoesCommit s d s' d'
     → Footprint s d s' d'
 commit_footprint s d s' d' kept ready does =
@@ -76,12 +85,21 @@ commit_footprint s d s' d' kept ready does =
       device = (ap (λ (e : Disk). e.history) does.same, ap (λ (e : Disk). e.flights) does.same);
       placed = tt;
       counted = omega arith;
-      rows = rows.applies s.log.number (intents b.contexts) (intents s.pending) (intents_both b.contexts s.pending)
-          (needed (unit_count s.log.number (batch_ops b)) _ (sum_needs b.contexts) _ has.needed
-          (ap (unit_count s.log.number) (flat_intents (λ x. x.ops) b.contexts)) (needs_are b.contexts)) (rows_then s b s.log.number);
+      rows = rows.applies s.log.number (intents b.contexts) (intents s.pending) (intents_both b.contexts s.pending) (
+        needed (unit_count s.log.number (batch_ops b)) _ (sum_needs b.contexts) _ has.needed
+            (ap (unit_count s.log.number) (flat_intents (λ x. x.ops) b.contexts)) (needs_are b.contexts),
+        subst (λ (ops : List RowOp). s.log.tail + unit_count s.log.number ops ≤ s.log.sup.half) (sym (flat_intents (λ x. x.ops) b.contexts)) has.room,
+      ) (rows_then s b s.log.number);
       units = units.retires (given_fresh s.pending) is.first (given_all b.contexts s.pending is.written) refl;
       half = half.moves_on (batch_ops b) begun from is.second refl;
-      other = other.commits (log_after b s.log).rows (log_after b s.log).tail (log_after b s.log).number refl refl;
+      other = other.commits (log_after b s.log).rows (log_after b s.log).tail (log_after b s.log).number
+          (no_check s d b kept up does.begun (check_pieces s.log))
+          (ap (λ (c : Option CheckPart). record (other_part s) {
+            rows = (log_after b s.log).rows;
+            tail = (log_after b s.log).tail;
+            number = (log_after b s.log).number;
+            check = c;
+          }) (no_check s d b kept up does.begun (check_pieces (log_after b s.log)) ∙ sym (no_check s d b kept up does.begun (check_pieces s.log))));
       book = book.applies (length s.book.commits - 0) (omega arith) refl;
       caused = record {
         ready = subst (λ (o : Option Batch). is_ready step.Commit d.depth (record s { batch = o }) ≡ true) does.begun ready;

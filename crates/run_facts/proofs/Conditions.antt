@@ -1,12 +1,14 @@
 -- What is known where a step is ready: the conditions under which the kernel calls the device and the log.
-use Rattle.std.proofs.Common.{◌≡◌, ℕ, ◌+◌, ◌-◌, ◌*◌, ◌^◌, ◌<◌, ◌≤◌, true, nat_lt, List, [], ◌∷◌, ◌++◌, length, Option, Some, None, is_some, is_none, refl, sym, ap, subst, ◌∙◌, arith}
-use Rattle.run_facts.proofs.Common.{AllByRecursion, flat_map, option_map_or, and_parts, ltb-true, Disk, RowOp, ops_bytes, unit_count, piece_count, Context, FlushState, Flying, Begun, is_flushed}
+use Rattle.std.proofs.Common.{◌≡◌, ℕ, ◌+◌, ◌-◌, ◌*◌, ◌^◌, ◌<◌, ◌≤◌, true, nat_lt, List, [], ◌∷◌, ◌++◌, length, Option, Some, None, refl, sym, ap, subst, ◌∙◌, arith}
+use Rattle.run_facts.proofs.Common.{AllByRecursion, flat_map, option_map_or, ltb-true, Disk, IsSuper, RowOp, ops_bytes, unit_count, piece_count, Context, Begun, is_flushed}
 use Rattle.meta_rows.specs.Prelude.{FitsRowOp, AllFit}
 use Rattle.store_steps.specs.declared.flight.FlushState.TheVariants as flush
 use Rattle.store_steps.specs.declared.step.Step.TheVariants.{Take, Record, Commit, Finish}
-use Rattle.store_steps.specs.Prelude.{Batch, State, Unsent, unsent_units, run_bytes, next_unsent, chosen, batch_ops, sum_needs, applied_count, is_ready_up, uncommitted, intent_of, intents, needs_by, rows_part}
-use Rattle.flight_facts.specs.Prelude.{IsWritten, IsUnderWay, IsLogFar, log_flying, IsAllGiven, FitsRecord, entry_work, work_left}
-use Rattle.flight_facts.proofs.Prelude.{same_count, short_body, IsRunOf, row_bytes, run_whole, StandsIn, all_left, all_right, all_join, synced_way, next_stands, test_of, some_is, none_is, all_at, open_far, begun_far, record_tests, pieces_left}
+use Rattle.store_steps.specs.Prelude.{Batch, State, Unsent, unsent_units, run_bytes, next_unsent, batch_ops, sum_needs, applied_count, is_ready_up, uncommitted, intent_of, intents, needs_by, rows_part}
+use Rattle.flight_facts.specs.Prelude.{by_one, by_pieces, IsEnded, batch_pieces, batch_stages, IsBatchOpen, IsBatchFar, is_of_batch, flying_for, IsAllGiven, FitsRecord, check_most, entry_work, work_left}
+use Rattle.flight_facts.proofs.Prelude.{same_count, short_body, IsRunOf, row_bytes, run_whole, StandsIn, all_left, all_right, all_join, next_stands, test_of, some_is, all_at, open_far, begun_far, synced_far, ended_ahead, ended_flushed, some_pieces, take_tests, record_tests, pieces_left}
+use Rattle.meta_log.specs.Prelude.{next_super}
+use Rattle.store_steps.specs.declared.flight.Job.TheVariants as job
 use Rattle.run_facts.specs.Prelude.{HasRoom, IsAlwaysKept, IsKeptUp}
 use Rattle.run_facts.proofs.Numbers.{NextAcked, next_acked}
 
@@ -37,7 +39,7 @@ pub needs_are : (xs : List Context) → needs_by (intents xs) ≡ sum_needs xs
 needs_are [] = refl
 needs_are (x ∷ xs) = ap (λ (n : ℕ). x.need + n) (needs_are xs)
 
-needs_both : (xs ys : List Context) → sum_needs (xs ++ ys) ≡ sum_needs xs + sum_needs ys
+pub needs_both : (xs ys : List Context) → sum_needs (xs ++ ys) ≡ sum_needs xs + sum_needs ys
 needs_both [] ys = omega arith
 needs_both (x ∷ xs) ys = omega (arith, needs_both xs ys)
 
@@ -100,10 +102,7 @@ has_record s d b a up is = record {
     needs = omega (arith, reserved, needs_both b.contexts s.pending)
 
     room : s.log.tail + unit_count s.log.number (batch_ops b) ≤ s.log.sup.half
-    room = behind s.log.tail s.log.reserved s.log.sup.half (unit_count s.log.number (batch_ops b)) (sum_needs b.contexts) up.room.room needed needs
-      where
-        behind : (tail reserved half units needs : ℕ) → tail + reserved ≤ half → units ≤ needs → needs ≤ reserved → tail + units ≤ half
-        behind tail reserved half units needs le one two = omega (arith, le, one, two)
+    room = (open_far s d.flights b up.flights is).fits
 
     few : (tail units half : ℕ) → tail + units ≤ half → half ≤ 65536 → units ≤ 65536
     few tail units half le most = omega (arith, le, most)
@@ -112,12 +111,31 @@ has_record s d b a up is = record {
 pub number_low : (s : State) (d : Disk) → IsAlwaysKept s d → s.log.number < 2 ^ 62
 number_low s d a = low s.log.number (work_left s) (length s.book.entries) a.numbers a.few.entries
   where
-    low : (n w entries : ℕ) → n + w ≤ 2 ^ 61 + entry_work * entries → entries ≤ 1048576 → n < 2 ^ 62
+    low : (n w entries : ℕ) → n + w ≤ 2 ^ 61 + check_most + entry_work * entries → entries ≤ 1048576 → n < 2 ^ 62
     low n w entries le most = omega arith
 
--- no batch is open where one may be opened
-pub take_none : (s : State) (depth : ℕ) → is_ready_up Take depth s ≡ true → s.batch ≡ None
-take_none s depth ready = none_is s.batch (and_parts (is_none s.batch) (is_some (chosen s.pending)) ready).0
+-- neither a batch nor a switch is open where one may be
+pub take_none : (s : State) (depth : ℕ) → is_ready_up Take depth s ≡ true → (s.batch ≡ None) × (s.switching ≡ None)
+take_none = take_tests
+
+-- and so is the epoch
+pub epoch_low : (s : State) (d : Disk) → IsAlwaysKept s d → s.log.sup.epoch + 1 < 2 ^ 62
+epoch_low s d a = low s.log.sup.epoch (work_left s) (length s.book.entries) a.epochs a.few.entries
+  where
+    low : (n w entries : ℕ) → n + w ≤ 2 ^ 61 + check_most + entry_work * entries → entries ≤ 1048576 → n + 1 < 2 ^ 62
+    low n w entries le most = omega arith
+
+-- so the superblock that follows has its limits
+pub next_limits : (s : State) (d : Disk) → IsAlwaysKept s d → IsSuper (next_super s.log.sup s.log.number)
+next_limits s d a = record {
+  units_most = a.limits.units_most;
+  half_least = a.limits.half_least;
+  half_most = a.limits.half_most;
+  room = a.limits.room;
+  prefer_most = a.limits.prefer_most;
+  epoch_below = epoch_low s d a;
+  first_below = number_low s d a;
+}
 
 -- ---- Record
 
@@ -130,17 +148,8 @@ pub record ReadyRecord (s : State) (r : Begun) : Type 0 where
   pub room : s.log.tail + unit_count s.log.number r.ops ≤ s.log.sup.half
 
 -- a record that is made is the batch's
-made_way : (first second : FlushState) (pieces : ℕ) (ops : List RowOp) (r : Begun) (flying : List Flying)
-    → IsUnderWay first second pieces ops (Some r) flying → r.ops ≡ ops
-made_way flush.NotSent flush.NotSent pieces ops r flying h = (h.0).0
-made_way (flush.Sent t) flush.NotSent pieces ops r flying h = (h.0).0
-made_way flush.Flushed flush.NotSent pieces ops r flying h = h.0
-made_way flush.Flushed second pieces ops r flying h = (h.0).0
-made_way first second pieces ops r flying h = absurd h
-
 pub made_ops : (s : State) (d : Disk) (b : Batch) (r : Begun) → IsKeptUp s d → s.batch ≡ Some b → s.log.begun ≡ Some r → r.ops ≡ batch_ops b
-made_ops s d b r up is begun =
-    made_way b.first b.second _ (batch_ops b) r (log_flying s.flying) (begun_far s d.flights b (Some r) up.flights is begun)
+made_ops s d b r up is begun = (begun_far s d.flights b (Some r) up.flights is begun).made
 
 -- and there is one where a record is made
 pub record IsMade (s : State) (r : Begun) : Type 0 where
@@ -149,24 +158,24 @@ pub record IsMade (s : State) (r : Begun) : Type 0 where
   pub ops : r.ops ≡ batch_ops batch
 
 pub made_batch : (s : State) (d : Disk) (r : Begun) → IsKeptUp s d → s.log.begun ≡ Some r → IsMade s r
-made_batch s d r up begun = of_batch s.batch refl (subst (λ (o : Option Begun). IsLogFar s.log.number s.batch o (log_flying s.flying)) begun up.flights.log)
+made_batch s d r up begun = of_batch s.batch refl
+    (subst (λ (o : Option Begun). IsBatchFar s.log.sup.half s.log.tail s.log.number s.batch o (flying_for is_of_batch s.flying)) begun up.flights.batch)
   where
-    of_batch : (o : Option Batch) → s.batch ≡ o → IsLogFar s.log.number o (Some r) (log_flying s.flying) → IsMade s r
+    of_batch : (o : Option Batch) → s.batch ≡ o → IsBatchFar s.log.sup.half s.log.tail s.log.number o (Some r) (flying_for is_of_batch s.flying) → IsMade s r
     of_batch None is far = absurd (let e = far.0 in cc)
     of_batch (Some b) is far = record { batch = b; is_open = is; ops = made_ops s d b r up is begun }
 
 -- a record of which a piece was given is made once the first flush has ended
-given_way : (first second : FlushState) (pieces : ℕ) (ops : List RowOp) (r : Begun) (flying : List Flying)
-    → IsUnderWay first second pieces ops (Some r) flying → 0 < r.given → first ≡ flush.Flushed
-given_way flush.NotSent flush.NotSent pieces ops r flying h some = absurd (omega (arith, (h.0).1, some))
-given_way (flush.Sent t) flush.NotSent pieces ops r flying h some = absurd (omega (arith, (h.0).1, some))
-given_way flush.Flushed second pieces ops r flying h some = refl
-given_way first second pieces ops r flying h some = absurd h
-
 pub given_flushed : (s : State) (d : Disk) (b : Batch) (r : Begun) → IsKeptUp s d → s.batch ≡ Some b → s.log.begun ≡ Some r → 0 < r.given
     → b.first ≡ flush.Flushed
-given_flushed s d b r up is begun =
-    given_way b.first b.second _ (batch_ops b) r (log_flying s.flying) (begun_far s d.flights b (Some r) up.flights is begun)
+given_flushed s d b r up is begun some =
+    let pieces : ℕ = batch_pieces s.log.number b in
+    let ahead = ended_ahead (by_one job.DataFlush b.first ∷ []) (by_pieces job.Record pieces r.given r.written) (by_one job.RecordFlush b.second ∷ [])
+    (flying_for is_of_batch s.flying) (λ unsent. never r.given unsent.0 some) (begun_far s d.flights b (Some r) up.flights is begun).far in
+    ended_flushed job.DataFlush b.first ahead.0
+  where
+    never : (given : ℕ) → given ≡ 0 → 0 < given → ⊥
+    never given none some = omega (arith, none, some)
 
 pub record_ready : (s : State) (d : Disk) (r : Begun) → IsAlwaysKept s d → IsKeptUp s d → is_ready_up Record d.depth s ≡ true → s.log.begun ≡ Some r
     → ReadyRecord s r
@@ -192,13 +201,30 @@ pub record ReadyCommit (s : State) (b : Batch) : Type 0 where
   pub written : writing.written ≡ piece_count (unit_count s.log.number (batch_ops b))
 
 pub commit_ready : (s : State) (d : Disk) (b : Batch) → IsKeptUp s d → is_ready_up Commit d.depth s ≡ true → s.batch ≡ Some b → ReadyCommit s b
-commit_ready s d b up ready is =
-    of_begun s.log.begun refl (synced_way b.first b.second _ (batch_ops b) s.log.begun (log_flying s.flying)
-    (test_of (λ b. is_flushed b.second) s.batch b is ready) (open_far s d.flights b up.flights is).far).1
+commit_ready s d b up ready is = of_begun s.log.begun refl ended.1.0
   where
-    of_begun : (o : Option Begun) → s.log.begun ≡ o → IsWritten (piece_count (unit_count s.log.number (batch_ops b))) (batch_ops b) o → ReadyCommit s b
-    of_begun None is w = absurd w
-    of_begun (Some r) is w = record { writing = r; begun = is; ops = w.0; given = w.1; written = w.2 }
+    opened : IsBatchOpen s.log.sup.half s.log.tail s.log.number b s.log.begun (flying_for is_of_batch s.flying)
+    opened = open_far s d.flights b up.flights is
+
+    ended : AllByRecursion IsEnded (batch_stages (batch_pieces s.log.number b) b s.log.begun)
+    ended = synced_far s.log.sup.half s.log.tail s.log.number b s.log.begun (flying_for is_of_batch s.flying) opened
+        (test_of (λ b. is_flushed b.second) s.batch b is ready)
+
+    none : (pieces : ℕ) → 0 ≡ pieces → 0 < pieces → ⊥
+    none pieces is some = omega (arith, is, some)
+
+    of_begun : (o : Option Begun) → s.log.begun ≡ o
+        → IsEnded (by_pieces job.Record (batch_pieces s.log.number b) (option_map_or (λ r. r.given) s.log.begun 0) (option_map_or (λ r. r.written) s.log.begun 0))
+        → ReadyCommit s b
+    of_begun None is w = absurd (none (batch_pieces s.log.number b) (sym (ap (λ (o : Option Begun). option_map_or (λ r. r.given) o 0) is) ∙ w.0)
+        (some_pieces s.log.number (batch_ops b)))
+    of_begun (Some r) begun w = record {
+      writing = r;
+      begun = begun;
+      ops = made_ops s d b r up is begun;
+      given = sym (ap (λ (o : Option Begun). option_map_or (λ r. r.given) o 0) begun) ∙ w.0;
+      written = sym (ap (λ (o : Option Begun). option_map_or (λ r. r.written) o 0) begun) ∙ w.1;
+    }
 
 -- ---- Finish
 
@@ -217,5 +243,5 @@ finish_ready s d a ready =
 pub events_fit : (s : State) (d : Disk) → IsAlwaysKept s d → s.events + 1 < 2 ^ 64
 events_fit s d a = few s.events (work_left s) (length s.book.entries) a.events a.few.entries
   where
-    few : (e w entries : ℕ) → e + w ≤ 2 ^ 61 + entry_work * entries → entries ≤ 1048576 → e + 1 < 2 ^ 64
+    few : (e w entries : ℕ) → e + w ≤ 2 ^ 61 + check_most + entry_work * entries → entries ≤ 1048576 → e + 1 < 2 ^ 64
     few e w entries le most = omega arith

@@ -146,7 +146,7 @@ data_footprint s d s' d' kept ready does =
           (intents_kept n.place (given_more (length (unsent_units n))) (λ x. refl) (option_map_or (λ (b : Batch). b.contexts) s.batch []) s.pending));
       units = units.gives does.ticket.place n (gives s d kept up n r);
       half = half.same tt refl;
-      other = other.same (placed_elsewhere s.log.sup (on_data does.ticket.place n) placed) refl;
+      other = other.same (placed_elsewhere s.log.sup (on_data does.ticket.place n) tt placed) refl;
       book = book.same refl;
       caused = tt;
     })

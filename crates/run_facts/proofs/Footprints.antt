@@ -16,6 +16,7 @@ use Rattle.run_facts.proofs.PartsKept.{book_alone}
 use Rattle.run_facts.proofs.DataFootprint.{data_footprint}
 use Rattle.run_facts.proofs.ReapFootprint.{reap_footprint}
 use Rattle.run_facts.proofs.CommitFootprint.{commit_footprint}
+use Rattle.run_facts.proofs.SwitchFootprints.{check_footprint, check_flush_footprint, slot_footprint, slot_flush_footprint, switch_footprint}
 use Rattle.run_facts.proofs.BatchFootprints.{rests, take_footprint, flush_footprint, seal_footprint, record_footprint, sync_footprint, finish_footprint}
 
 -- ---- a transaction is accepted
@@ -83,6 +84,11 @@ step_footprint step.Record s d s' d' kept was up ready does = record_footprint s
 step_footprint step.Sync s d s' d' kept was up ready does = sync_footprint s d s' d' kept ready does
 step_footprint step.Commit s d s' d' kept was up ready does = commit_footprint s d s' d' kept ready does
 step_footprint step.Finish s d s' d' kept was up ready does = finish_footprint s d s' d' ready does
+step_footprint step.CheckWrite s d s' d' kept was up ready does = check_footprint s d s' d' kept ready does
+step_footprint step.CheckFlush s d s' d' kept was up ready does = check_flush_footprint s d s' d' kept ready does
+step_footprint step.SlotWrite s d s' d' kept was up ready does = slot_footprint s d s' d' kept ready does
+step_footprint step.SlotFlush s d s' d' kept was up ready does = slot_flush_footprint s d s' d' kept ready does
+step_footprint step.Switch s d s' d' kept was up ready does = switch_footprint s d s' d' kept ready does
 
 pub footprint_of : (call : Call) (s : State) (d : Disk) (s' : State) (d' : Disk) → IsKept s d → s'.down ≡ None → Calls call s d s' d' → Footprint s d s' d'
 footprint_of (submitting client line change) s d s' d' kept up (may, does, same) = elim does [

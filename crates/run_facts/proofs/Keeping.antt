@@ -1,11 +1,13 @@
 -- What the kernel keeps while it waits, and while it is down; and that a step lowers the measure.
-use Rattle.std.proofs.Common.{◌≡◌, inl, inr, ℕ, ◌+◌, ◌<◌, ◌≤◌, true, map, Some, sym, ap, subst, ◌∙◌, arith}
-use Rattle.run_facts.proofs.Common.{Disk, Flight, IsSound, Waited, Ticket, Step}
-use Rattle.store_steps.specs.Prelude.{State, landed, is_ready, Call, submitting, reading, stepping, DoesOrFails, Submits, Reads, Calls}
+use Rattle.std.proofs.Common.{◌≡◌, inl, inr, ℕ, ◌+◌, ◌<◌, ◌≤◌, true, List, [], ◌∷◌, ◌++◌, map, Some, sym, ap, subst, ◌∙◌, arith}
+use Rattle.run_facts.proofs.Common.{AllByRecursion, option_map_or, Disk, Flight, IsSound, Waited, Ticket, Context, Step}
+use Rattle.store_steps.specs.Prelude.{Batch, State, sum_needs, uncommitted, rows_units, rows_part, landed, is_ready, Call, submitting, reading, stepping, DoesOrFails, Submits, Reads, Calls}
 use Rattle.flight_facts.specs.Prelude.{work_left, measure, budget, AreFlightsKnown}
 use Rattle.flight_facts.proofs.Prelude.{Landed, landed_flight, Ends, IsStill, GoesDown, waited_history, not_both, GoneDown, StepOutcome, has_stepped, has_waited, has_gone_down, step_leaves, measure_falls}
-use Rattle.run_facts.specs.Prelude.{IsAlwaysKept, IsKept}
-use Rattle.run_facts.proofs.Conditions.{pending_fits}
+use Rattle.space_facts.proofs.Prelude.{check_units_are}
+use Rattle.meta_log.specs.Prelude.{check_units}
+use Rattle.run_facts.specs.Prelude.{HasRoom, IsAlwaysKept, IsKept}
+use Rattle.run_facts.proofs.Conditions.{pending_fits, needs_are, needs_both}
 
 -- ---- numbers and the work that is left stay within the budget
 
@@ -27,9 +29,41 @@ waited_keeps s d d' sound a (inr more) = record {
   book = a.book;
   events = a.events;
   numbers = a.numbers;
+  epochs = a.epochs;
 }
 
 -- ---- what is in flight is known
+
+-- each that waits has room behind the rows
+each_has_room : (s : State) → HasRoom (rows_part s) → AllByRecursion (λ x. check_units s.log.number s.log.rows + x.need ≤ s.log.sup.half) s.pending
+each_has_room s room = of_each s.pending (behind (sum_needs front) (sum_needs s.pending) (sum_needs (front ++ s.pending)) (needs_both front s.pending))
+  where
+    front : List Context
+    front = option_map_or (λ (b : Batch). b.contexts) s.batch []
+
+    fits : check_units s.log.number s.log.rows + sum_needs (front ++ s.pending) ≤ s.log.sup.half
+    fits = all (check_units s.log.number s.log.rows) (rows_units s.log.rows) s.log.reserved (sum_needs (front ++ s.pending)) s.log.sup.half
+        (check_units_are s.log.number s.log.rows) (room.reserved ∙ needs_are (uncommitted s)) room.room
+      where
+        all : (check units reserved needs half : ℕ) → check ≡ units → reserved ≡ needs → units + reserved ≤ half → check + needs ≤ half
+        all check units reserved needs half is same le = omega (arith, is, same, le)
+
+    behind : (one rest whole : ℕ) → whole ≡ one + rest → rest ≤ whole
+    behind one rest whole is = omega (arith, is)
+
+    of_each : (xs : List Context) → sum_needs xs ≤ sum_needs (front ++ s.pending)
+        → AllByRecursion (λ x. check_units s.log.number s.log.rows + x.need ≤ s.log.sup.half) xs
+    of_each [] most = tt
+    of_each (x ∷ xs) most = (
+      first (check_units s.log.number s.log.rows) x.need (sum_needs xs) (sum_needs (front ++ s.pending)) s.log.sup.half most fits,
+      of_each xs (others x.need (sum_needs xs) (sum_needs (front ++ s.pending)) most),
+    )
+      where
+        first : (check need rest whole half : ℕ) → need + rest ≤ whole → check + whole ≤ half → check + need ≤ half
+        first check need rest whole half le room = omega (arith, le, room)
+
+        others : (need rest whole : ℕ) → need + rest ≤ whole → rest ≤ whole
+        others need rest whole le = omega (arith, le)
 
 flights_known : (s : State) (d : Disk) → IsKept s d → AreFlightsKnown s d
 flights_known s d kept = record {
@@ -37,6 +71,11 @@ flights_known s d kept = record {
   acked = kept.always.book.within;
   parts = λ up. (kept.up up).flights;
   fits = λ up. pending_fits s (kept.up up).room;
+  checks = λ up. record {
+    half = kept.always.limits.half_most;
+    stale = (kept.up up).stale;
+    rows = each_has_room s (kept.up up).room;
+  };
 }
 
 pub kept_leaves : (step : Step) (s : State) (d : Disk) (s' : State) (d' : Disk) → IsKept s d → is_ready step d.depth s ≡ true
@@ -65,6 +104,7 @@ down_keeps s d s' d' sound a gone =
       book = a.book;
       events = paid_within s.events (s.events + 1) (work_left s) (work_left u) (budget s) a.events falls (omega arith);
       numbers = paid_within s.log.number s.log.number (work_left s) (work_left u) (budget s) a.numbers falls (omega arith);
+      epochs = paid_within s.log.sup.epoch s.log.sup.epoch (work_left s) (work_left u) (budget s) a.epochs falls (omega arith);
     })
 
 -- ---- a call that leaves the kernel down

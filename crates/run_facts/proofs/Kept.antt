@@ -1,18 +1,19 @@
 -- Each call of the kernel keeps what it keeps.
-use Rattle.std.proofs.Common.{◌≡◌, inl, inr, ℕ, ◌+◌, ◌-◌, ◌*◌, ◌^◌, ◌<◌, ◌≤◌, true, List, [], ◌∷◌, ◌++◌, length, map, length-append, Option, None, is_some, refl, sym, ap, subst, ◌∙◌, arith}
-use Rattle.run_facts.proofs.Common.{option_map_or, Disk, Flight, IsSound, Waited, Change, Command, Answer, Entry, IsSuper, piece_count, Plan, PlansKeep, IsKnown, Space, Context, Step}
+use Rattle.std.proofs.Common.{◌≡◌, ◌⊎◌, inl, inr, ℕ, zero, suc, ◌+◌, ◌-◌, ◌*◌, ◌^◌, ◌<◌, ◌≤◌, true, List, [], ◌∷◌, ◌++◌, length, map, length-append, Option, None, is_some, refl, sym, ap, subst, ◌∙◌, arith}
+use Rattle.run_facts.proofs.Common.{option_map_or, Disk, Flight, IsSound, Waited, Change, Command, Answer, Entry, piece_count, Plan, PlansKeep, IsKnown, Space, Context, Step}
 use Rattle.object_model.specs.declared.command.Command.TheVariants as ask
 use Rattle.object_model.specs.declared.command.Answer.TheVariants as answer
-use Rattle.store_steps.specs.Prelude.{Batch, State, is_ready, applied_count, entry_limit, need_of, context_of, accepted_with, entered, Accepts, Refuses, Found, opened, stepping, DoesOrFails, AnswersRead, Reads, Intent, intent_of, rows_part, book_part, joined, Footprint}
+use Rattle.store_steps.specs.Prelude.{Batch, State, is_ready, rows_units, applied_count, entry_limit, need_of, context_of, accepted_with, entered, Accepts, Refuses, Found, opened, stepping, DoesOrFails, AnswersRead, Reads, Intent, intent_of, rows_part, book_part, joined, Footprint}
 use Rattle.store_steps.specs.RowsGo as rows
-use Rattle.flight_facts.specs.Prelude.{AreOfJobs, FitsRecord, FlightsMatch, sum_work, batch_work, work_left, entry_work, budget, measure}
-use Rattle.flight_facts.proofs.Prelude.{StepOutcome, has_stepped, has_waited, has_gone_down, GoneDown, Matches, one_more_waits, one_more_entry, waited_does, Paid, sum_both}
+use Rattle.flight_facts.specs.Prelude.{AreOfJobs, FitsRecord, FlightsMatch, check_most, check_due, sum_work, batch_work, switch_work, work_left, entry_work, budget, measure}
+use Rattle.flight_facts.proofs.Prelude.{StepOutcome, has_stepped, has_waited, has_gone_down, GoneDown, one_more_waits, one_more_entry, waited_does, Paid, sum_both, due_most}
 use Rattle.run_facts.specs.Prelude.{AreRowsKept, IsAlwaysKept, IsKept, IsOpenable}
-use Rattle.space_facts.proofs.Prelude.{within_opened}
+use Rattle.space_facts.proofs.Prelude.{within_opened, check_units_are}
+use Rattle.meta_log.specs.Prelude.{AreRunsFrom, check_units, front_run}
 use Rattle.run_facts.proofs.Keeping.{down_keeps, paid_within, waited_keeps, kept_leaves, work_falls}
 use Rattle.run_facts.proofs.Footprints.{intents_push, footprint_of}
 use Rattle.run_facts.proofs.RowsKept.{rows_go}
-use Rattle.run_facts.proofs.RoomKept.{room_go, within_go, space_go, sup_go}
+use Rattle.run_facts.proofs.RoomKept.{room_go, within_go, space_go, super_go, units_go, half_go}
 use Rattle.run_facts.proofs.BookKept.{book_go, acked_in_turn}
 use Rattle.run_facts.proofs.RowsSteps.{MayAll, may_all}
 use Rattle.run_facts.proofs.RowsAccepted.{accepted_joins, accepted_record, accepted_few}
@@ -23,14 +24,19 @@ use Rattle.run_facts.proofs.RowsOpened.{opened_rows}
 few_more : (commits commits' pending pending' entries : ℕ) → commits + pending ≤ entries → commits' + pending' ≡ commits + pending → commits' + pending' ≤ entries
 few_more commits commits' pending pending' entries le is = omega (arith, le, is)
 
+-- what was the log is one run, if there is any of it
+first_run : (tail half : ℕ) → tail ≤ half → AreRunsFrom 0 half (front_run tail)
+first_run zero half most = tt
+first_run (suc n) half most = (omega arith, omega arith, omega (arith, most), tt)
+
 -- a step that was paid, of a kernel that stays up
 paid_keeps : (step : Step) (s : State) (d : Disk) (s' : State) (d' : Disk) → IsKept s d → IsSound d' → s.down ≡ None → is_ready step d.depth s ≡ true
-    → DoesOrFails step s d s' d' → Paid s d s' d' → Matches s' d'.flights → IsKept s' d'
+    → DoesOrFails step s d s' d' → Paid s d s' d' → FlightsMatch s' d'.flights → IsKept s' d'
 paid_keeps step s d s' d' kept sound up ready does paid matches = record {
   always = record {
     device = sound;
-    limits = subst IsSuper (sym same) a.limits;
-    units = ap (λ sup. sup.units) same ∙ a.units ∙ sym paid.units;
+    limits = super_go (rows_part s) (rows_part s') f.rows a.limits;
+    units = units_go (rows_part s) (rows_part s') f.rows ∙ a.units ∙ sym paid.units;
     space = space_go (rows_part s) (rows_part s') f.rows a.space;
     flights = paid.flights;
     few = record {
@@ -39,16 +45,19 @@ paid_keeps step s d s' d' kept sound up ready does paid matches = record {
       entries = subst (λ (es : List Entry). length es ≤ 1048576) (sym paid.near.entries) a.few.entries;
     };
     book = book_go s.events f.touch (book_part s) (book_part s') f.book (acked_in_turn s d s' d' f.rows f.book f.caused) a.book;
-    events = subst (λ (es : List Entry). s'.events + work_left s' ≤ 2 ^ 61 + entry_work * length es) (sym paid.near.entries)
+    events = subst (λ (es : List Entry). s'.events + work_left s' ≤ 2 ^ 61 + check_most + entry_work * length es) (sym paid.near.entries)
         (paid_within s.events s'.events (work_left s) (work_left s') (budget s) a.events paid.falls paid.near.events);
-    numbers = subst (λ (es : List Entry). s'.log.number + work_left s' ≤ 2 ^ 61 + entry_work * length es) (sym paid.near.entries)
+    numbers = subst (λ (es : List Entry). s'.log.number + work_left s' ≤ 2 ^ 61 + check_most + entry_work * length es) (sym paid.near.entries)
         (paid_within s.log.number s'.log.number (work_left s) (work_left s') (budget s) a.numbers paid.falls paid.near.number);
+    epochs = subst (λ (es : List Entry). s'.log.sup.epoch + work_left s' ≤ 2 ^ 61 + check_most + entry_work * length es) (sym paid.near.entries)
+        (paid_within s.log.sup.epoch s'.log.sup.epoch (work_left s) (work_left s') (budget s) a.epochs paid.falls paid.near.epoch);
   };
   up = λ _. record {
     flights = matches;
     rows = rows_go (rows_part s) (rows_part s') f.rows a.limits a.space may.rows (kept.up up).rows;
     room = room_go (rows_part s) (rows_part s') f.rows may.room (kept.up up).room;
     within = within_go (rows_part s) (rows_part s') f.rows may.room (kept.up up).rows.submitted (kept.up up).room (kept.up up).within;
+    stale = subst (λ (half : ℕ). AreRunsFrom 0 half s'.log.stale) (sym (half_go (rows_part s) (rows_part s') f.rows)) (still_stale paid.near.stale);
   };
 }
   where
@@ -58,8 +67,9 @@ paid_keeps step s d s' d' kept sound up ready does paid matches = record {
     f : Footprint s d s' d'
     f = footprint_of (stepping step) s d s' d' kept (paid.near.up ∙ up) (ready, does)
 
-    same : s'.log.sup ≡ s.log.sup
-    same = sup_go (rows_part s) (rows_part s') f.rows
+    still_stale : (s'.log.stale ≡ s.log.stale) ⊎ (s'.log.stale ≡ front_run s.log.tail) → AreRunsFrom 0 s.log.sup.half s'.log.stale
+    still_stale (inl same) = subst (AreRunsFrom 0 s.log.sup.half) (sym same) (kept.up up).stale
+    still_stale (inr was) = subst (AreRunsFrom 0 s.log.sup.half) (sym was) (first_run s.log.tail s.log.sup.half (kept.up up).room.tail)
 
     may : MayAll (rows_part s) f.rows
     may = may_all s d s' d' paid.near.entries (rows_part s) f.rows f.book f.caused
@@ -80,6 +90,7 @@ waited_kept s d d' sound kept waited = record {
     rows = (kept.up down).rows;
     room = (kept.up down).room;
     within = (kept.up down).within;
+    stale = (kept.up down).stale;
   };
 }
 
@@ -94,15 +105,9 @@ kept_step step s s' d d' kept ready does sound = of_leaves (kept_leaves step s d
 
 -- ---- an entry of the book
 
--- one entry more
-matches_push : (s : State) (t : State) (flights : List Flight) (e : Entry) → t.book.entries ≡ s.book.entries ++ e ∷ []
-    → FlightsMatch t.log (length s.book.entries + 1) t.pending t.batch t.flying flights → Matches t flights
-matches_push s t flights e is m = subst (λ (n : ℕ). FlightsMatch t.log n t.pending t.batch t.flying flights)
-    (sym (ap (λ (es : List Entry). length es) is ∙ length-append s.book.entries (e ∷ []))) m
-
 -- which may add so much work, and leaves room for events and numbers
-more_within : (e w w' entries entries' : ℕ) → e + w ≤ 2 ^ 61 + entry_work * entries → w' ≤ w + entry_work → entries' ≡ entries + 1
-    → e + w' ≤ 2 ^ 61 + entry_work * entries'
+more_within : (e w w' entries entries' : ℕ) → e + w ≤ 2 ^ 61 + check_most + entry_work * entries → w' ≤ w + entry_work → entries' ≡ entries + 1
+    → e + w' ≤ 2 ^ 61 + check_most + entry_work * entries'
 more_within e w w' entries entries' le more is = omega (arith, le, more, is)
 
 -- an answer without a transaction
@@ -123,13 +128,14 @@ entered_kept s d client line command a kept up below =
         book = record { acks = was.book.acks; within = was.book.within; all = was.book.all };
         events = more_within s.events (work_left s) (work_left s) (length s.book.entries) _ was.events (most (work_left s)) entries;
         numbers = more_within s.log.number (work_left s) (work_left s) (length s.book.entries) _ was.numbers (most (work_left s)) entries;
+        epochs = more_within s.log.sup.epoch (work_left s) (work_left s) (length s.book.entries) _ was.epochs (most (work_left s)) entries;
       };
       up = λ _. record {
-        flights = matches_push s (entered client line command a s) d.flights entry refl
-            (one_more_entry s.log (length s.book.entries) s.pending s.batch s.flying d.flights (kept.up up).flights);
+        flights = one_more_entry client line command a s d.flights (kept.up up).flights;
         rows = (kept.up up).rows;
         room = (kept.up up).room;
         within = (kept.up up).within;
+        stale = (kept.up up).stale;
       };
     }
   where
@@ -178,26 +184,29 @@ module _ (keep : PlansKeep) (s : State) (d : Disk) (client line : ℕ) (change :
   -- the work that it adds
   more : work_left t ≤ work_left s + entry_work
   more = much (length s.flying) (sum_work s.pending) (sum_work (s.pending ++ x ∷ [])) (length does.plan.fresh) (need_of s.log does.plan)
-      s.log.sup.half s.log.tail s.log.reserved (option_map_or (batch_work s.log) s.batch 0) (applied_count s - s.acked) (sum_both s.pending (x ∷ []))
+      s.log.sup.half (check_units s.log.number s.log.rows) s.log.reserved (option_map_or (batch_work s.log) s.batch 0)
+      (option_map_or (switch_work s.log) s.switching (check_due s.log)) (applied_count s - s.acked) (sum_both s.pending (x ∷ []))
       (accepted_few keep s d client line change s' a.limits a.space were known does) does.fits a.limits.half_most
     where
-      pieces : (need half tail reserved : ℕ) → need ≤ half - tail - reserved → half ≤ 65536 → piece_count need ≤ 1024
-      pieces need half tail reserved fits most = omega (arith, fits, most)
+      pieces : (need half rows reserved : ℕ) → need ≤ half - rows - reserved → half ≤ 65536 → piece_count need ≤ 1024
+      pieces need half rows reserved fits most = omega (arith, fits, most)
 
-      many : (flies work work' fresh count batch left : ℕ) → work' ≡ work + ((2 * (fresh - 0) + 8 + 2 * count) + 0) → fresh ≤ 1048576 → count ≤ 1024
-          → flies + work' + batch + left ≤ flies + work + batch + left + entry_work
-      many flies work work' fresh count batch left is few fewer = omega (arith, is, few, fewer)
+      many : (flies work work' fresh count batch switch left : ℕ) → work' ≡ work + ((2 * (fresh - 0) + 8 + 2 * count + check_most) + 0) → fresh ≤ 1048576
+          → count ≤ 1024 → flies + work' + batch + switch + left ≤ flies + work + batch + switch + left + entry_work
+      many flies work work' fresh count batch switch left is few fewer = omega (arith, is, few, fewer)
 
-      much : (flies work work' fresh need half tail reserved batch left : ℕ) → work' ≡ work + ((2 * (fresh - 0) + 8 + 2 * piece_count need) + 0)
-          → fresh ≤ 1048576 → need ≤ half - tail - reserved → half ≤ 65536 → flies + work' + batch + left ≤ flies + work + batch + left + entry_work
-      much flies work work' fresh need half tail reserved batch left is few fits most =
-          many flies work work' fresh (piece_count need) batch left is few (pieces need half tail reserved fits most)
+      much : (flies work work' fresh need half rows reserved batch switch left : ℕ)
+          → work' ≡ work + ((2 * (fresh - 0) + 8 + 2 * piece_count need + check_most) + 0) → fresh ≤ 1048576 → need ≤ half - rows - reserved → half ≤ 65536
+          → flies + work' + batch + switch + left ≤ flies + work + batch + switch + left + entry_work
+      much flies work work' fresh need half rows reserved batch switch left is few fits most =
+          many flies work work' fresh (piece_count need) batch switch left is few (pieces need half rows reserved fits most)
 
-  room : s.log.tail + (s.log.reserved + need_of s.log does.plan) ≤ s.log.sup.half
-  room = behind s.log.tail s.log.reserved s.log.sup.half (need_of s.log does.plan) does.fits (kept.up up).room.room
+  room : rows_units s.log.rows + (s.log.reserved + need_of s.log does.plan) ≤ s.log.sup.half
+  room = behind (check_units s.log.number s.log.rows) (rows_units s.log.rows) s.log.reserved s.log.sup.half (need_of s.log does.plan)
+      (check_units_are s.log.number s.log.rows) does.fits (kept.up up).room.room
     where
-      behind : (tail reserved half need : ℕ) → need ≤ half - tail - reserved → tail + reserved ≤ half → tail + (reserved + need) ≤ half
-      behind tail reserved half need fits le = omega (arith, fits, le)
+      behind : (check rows reserved half need : ℕ) → check ≡ rows → need ≤ half - check - reserved → rows + reserved ≤ half → rows + (reserved + need) ≤ half
+      behind check rows reserved half need is fits le = omega (arith, is, fits, le)
 
   fits_record : FitsRecord (intent_of x)
   fits_record = accepted_record keep s d client line change s' a.limits a.space were known does
@@ -214,13 +223,14 @@ module _ (keep : PlansKeep) (s : State) (d : Disk) (client line : ℕ) (change :
       book = record { acks = a.book.acks; within = a.book.within; all = a.book.all };
       events = more_within s.events (work_left s) (work_left t) (length s.book.entries) _ a.events more entries;
       numbers = more_within s.log.number (work_left s) (work_left t) (length s.book.entries) _ a.numbers more entries;
+      epochs = more_within s.log.sup.epoch (work_left s) (work_left t) (length s.book.entries) _ a.epochs more entries;
     };
     up = λ _. record {
-      flights = matches_push s t d.flights entry refl
-          (one_more_waits s.log t.log (length s.book.entries) s.pending s.batch s.flying d.flights x refl refl refl refl (kept.up up).flights);
+      flights = one_more_waits client line change does.plan s d.flights (kept.up up).flights;
       rows = rows_go (rows_part s) (rows_part t) goes a.limits a.space (accepted_joins keep s d client line change s' a.limits a.space were known does) were;
       room = room_go (rows_part s) (rows_part t) goes (fits_record, room) (kept.up up).room;
       within = within_go (rows_part s) (rows_part t) goes (fits_record, room) were.submitted (kept.up up).room (kept.up up).within;
+      stale = (kept.up up).stale;
     };
   })
 
@@ -259,21 +269,34 @@ kept_open f space events d sound idle few is = record {
     flights = sym (ap (map (λ f. f.ticket)) idle);
     few = record { commits = omega arith; entries = omega arith };
     book = record { acks = λ i. tt; within = omega arith; all = omega arith };
-    events = omega (arith, few);
-    numbers = omega (arith, is.number);
+    events = first (check_due t.log) events (due_most t.log) few;
+    numbers = first (check_due t.log) f.number (due_most t.log) is.number;
+    epochs = first (check_due t.log) f.sup.epoch (due_most t.log) is.epoch;
   };
   up = λ _. record {
     flights = record {
       places = record { ascend = tt; below = tt };
       waiting = tt;
-      log = (refl, refl);
+      batch = (refl, refl);
+      switch = refl;
+      alone = tt;
       touches = subst (λ (fs : List Flight). AreOfJobs (opened f space events).log [] [] fs) (sym idle) tt;
     };
     rows = opened_rows f space events d.units is;
-    room = record { fits = tt; reserved = refl; room = omega (arith, is.tail) };
+    room = record { fits = tt; reserved = refl; room = behind (rows_units f.rows) f.tail f.sup.half is.within is.tail; tail = is.tail; spelled = is.spelled };
     within = within_opened (rows_part (opened f space events)) refl is.within;
+    stale = is.stale;
   };
 }
+  where
+    t : State
+    t = opened f space events
+
+    first : (due n : ℕ) → due ≤ check_most → n ≤ 2 ^ 61 → n + (0 + 0 + 0 + due + (0 - 0 - 0)) ≤ 2 ^ 61 + check_most + entry_work * 0
+    first due n most low = omega (arith, most, low)
+
+    behind : (units tail half : ℕ) → units ≤ tail → tail ≤ half → units + 0 ≤ half
+    behind units tail half le most = omega (arith, le, most)
 
 -- ---- for the laws
 

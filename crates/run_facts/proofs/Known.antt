@@ -1,18 +1,18 @@
 -- What a kernel that keeps its facts knows at each call: the conditions of what it calls in turn.
-use Rattle.std.proofs.Common.{◌≡◌, ℕ, ◌+◌, ◌-◌, ◌*◌, ◌^◌, ◌<◌, ◌≤◌, true, nat_lt, List, [], ◌∷◌, length, take, drop, Contains, Option, Some, None, IfSome, refl, sym, ap, subst, arith}
+use Rattle.std.proofs.Common.{◌≡◌, ℕ, ◌+◌, ◌-◌, ◌*◌, ◌^◌, ◌<◌, ◌≤◌, true, nat_lt, List, [], ◌∷◌, length, take, drop, Contains, Option, Some, None, IfSome, refl, sym, ap, subst, ◌∙◌, arith}
 use Rattle.run_facts.proofs.Common.{AllByRecursion, option_map_or, and_parts, Disk, IsUntouched, ops_bytes, unit_count, given_from, piece_first, piece_units, LiesInRecord, active_unit, IsDataUnit, FreshUnit, Context, Begun}
 use Rattle.block_device.specs.Prelude.{IsNotInFlight}
 use Rattle.meta_rows.specs.Prelude.{AllFit}
 use Rattle.meta_log.proofs.PieceLemmas.{lies}
 use Rattle.store_steps.specs.declared.step.Step.TheVariants.{Data, Flush, Seal, Record, Sync, Commit, Finish}
-use Rattle.store_steps.specs.Prelude.{Batch, State, Unsent, unsent_units, run_bytes, next_unsent, batch_ops, is_not_sent, applied_count, is_ready, is_drained, piece_unit, piece_bytes, all_fresh}
+use Rattle.store_steps.specs.Prelude.{Batch, State, Unsent, unsent_units, run_bytes, next_unsent, batch_ops, is_not_sent, applied_count, is_ready, is_drained, piece_unit, piece_bytes, all_fresh, intents, needs_by}
 use Rattle.flight_facts.specs.Prelude.{IsNone, IsGivenPiece}
-use Rattle.flight_facts.proofs.Prelude.{record_long, idle_device, StandsIn, all_join, IsRunOf, row_at, run_has, run_inside, run_untouched, ready_not_down, ready_by_table, IsIdle, drained_is_idle, unflown, none_left, rest_not_given, flush_unflown, sync_unflown, test_of, some_is, first_waits, sync_tests, all_left, pieces_ended}
+use Rattle.flight_facts.proofs.Prelude.{record_long, idle_device, StandsIn, all_join, IsRunOf, row_at, run_has, run_inside, run_untouched, ready_not_down, ready_by_table, IsIdle, idle_uncommitted, drained_is_idle, unflown, none_left, rest_not_given, flush_unflown, sync_unflown, test_of, some_is, first_waits, sync_tests, all_left, pieces_ended}
 use Rattle.run_facts.specs.Prelude.{IsKept, IsKeptUp}
 use Rattle.run_facts.proofs.Numbers.{NextAcked}
 use Rattle.run_facts.proofs.RowsFacts.{units_of, next_on_data}
 use Rattle.run_facts.proofs.Conditions.{room_at_device, ReadyData, data_ready, HasRecord, has_record, number_low, ReadyRecord, record_ready, ReadyCommit, commit_ready, finish_ready, events_fit}
-use Rattle.run_facts.proofs.Apart.{none_given, fresh_taken, taken_fresh, batch_apart, AreOthers, others_apart, record_behind, not_in_record, not_given}
+use Rattle.run_facts.proofs.Apart.{none_given, fresh_taken, taken_fresh, batch_apart, AreOthers, others_apart, record_behind, data_no_target, record_no_target, not_given}
 
 -- ---- what a flush covers isn't in flight
 
@@ -131,7 +131,7 @@ data_untouched s d n kept ready is = row_at (IsUntouched d.flights) n.first.unit
         → AllByRecursion (λ f. IsNone (take x.given x.fresh) f.unit) fs → AllByRecursion (λ f. IsUntouched d.flights f.unit) fs
     each [] a b c = tt
     each (f ∷ fs) a b c = (
-      unflown s.log s.pending s.flying d.flights f.unit (kept.up down).flights.touches (spared f.unit b.0 c.0) (not_in_record s d kept down f.unit a.0),
+      unflown s.log s.pending s.flying d.flights f.unit (kept.up down).flights.touches (data_no_target s d kept down f.unit a.0 (spared f.unit b.0 c.0)),
       each fs a.1 b.1 c.1,
     )
 
@@ -169,9 +169,9 @@ record_untouched s d r kept ready is =
     let known : ReadyRecord s r = known_record s d r kept ready is in
     λ j below.
     unflown s.log s.pending s.flying d.flights (active_unit s.log.sup + (s.log.tail + j)) (kept.up down).flights.touches
-    (not_given s d kept down j (within s.log.tail j _ (unit_count s.log.number r.ops) s.log.sup.half below
-    (given_within (unit_count s.log.number r.ops) r.given) known.room))
-    (subst (λ (o : Option Begun). IfSome o (λ k. ¬ IsGivenPiece s.log k (active_unit s.log.sup + (s.log.tail + j)))) (sym is) (rest_not_given s.log r j below))
+    (record_no_target s d kept down known.batch known.is_open j
+    (within s.log.tail j _ (unit_count s.log.number r.ops) s.log.sup.half below (given_within (unit_count s.log.number r.ops) r.given) known.room)
+    (subst (λ (o : Option Begun). IfSome o (λ k. ¬ IsGivenPiece s.log k (active_unit s.log.sup + (s.log.tail + j)))) (sym is) (rest_not_given s.log r j below)))
   where
     given_within : (units given : ℕ) → given_from units given ≤ units
     given_within units given = omega arith
@@ -202,6 +202,16 @@ idle_pending s d kept up drained = (known_idle s d kept up drained).pending
 
 pub idle_batch : (s : State) (d : Disk) → IsKept s d → s.down ≡ None → is_drained d.depth s ≡ true → s.batch ≡ None
 idle_batch s d kept up drained = (known_idle s d kept up drained).batch
+
+pub idle_switching : (s : State) (d : Disk) → IsKept s d → s.down ≡ None → is_drained d.depth s ≡ true → s.switching ≡ None
+idle_switching s d kept up drained = (known_idle s d kept up drained).switching
+
+pub idle_check : (s : State) (d : Disk) → IsKept s d → s.down ≡ None → is_drained d.depth s ≡ true → s.log.check ≡ None
+idle_check s d kept up drained = (known_idle s d kept up drained).check
+
+pub idle_reserved : (s : State) (d : Disk) → IsKept s d → s.down ≡ None → is_drained d.depth s ≡ true → s.log.reserved ≡ 0
+idle_reserved s d kept up drained =
+    (kept.up up).room.reserved ∙ ap (λ (xs : List Context). needs_by (intents xs)) (idle_uncommitted s (known_idle s d kept up drained))
 
 pub idle_disk : (s : State) (d : Disk) → IsKept s d → s.down ≡ None → is_drained d.depth s ≡ true → d.flights ≡ []
 idle_disk s d kept up drained = idle_device s.flying d.flights kept.always.flights (known_idle s d kept up drained).flying
@@ -234,6 +244,6 @@ record_spelled s d b kept ready is = let k = known_seal s d b kept ready is in (
 pub record_number : (s : State) (d : Disk) (b : Batch) → IsKept s d → is_ready Seal d.depth s ≡ true → s.batch ≡ Some b → s.log.number < 2 ^ 62
 record_number s d b kept ready is = number_low s d kept.always
 
-pub ruleset idle_laws = (idle_pending, idle_batch, idle_disk, idle_acked)
+pub ruleset idle_laws = (idle_pending, idle_batch, idle_switching, idle_check, idle_reserved, idle_disk, idle_acked)
 
 pub ruleset room_laws = (few_units, whole_units, data_inside, record_fits, record_spelled, record_number, known_events)

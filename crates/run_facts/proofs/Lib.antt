@@ -10,9 +10,11 @@ pub mod Apart
 pub mod Known
 pub mod DataFootprint
 pub mod ReapFootprint
+pub mod SwitchFootprints
 pub mod CommitFootprint
 pub mod BatchFootprints
 pub mod Footprints
+pub mod SwitchKnown
 pub mod RowsKept
 pub mod RoomKept
 pub mod BookKept

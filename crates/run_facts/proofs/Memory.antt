@@ -18,7 +18,7 @@ use Rattle.run_facts.specs.Prelude.{IsKept}
 use Rattle.run_facts.proofs.SpaceUnits.{within_data}
 use Rattle.run_facts.proofs.PartsKept.{flat_intents}
 use Rattle.run_facts.proofs.RowsFacts.{units_of, taken_by}
-use Rattle.run_facts.proofs.Apart.{fresh_taken, taken_fresh, parts_apart, batch_apart, not_in_record}
+use Rattle.run_facts.proofs.Apart.{fresh_taken, taken_fresh, parts_apart, batch_apart, data_no_target}
 use Rattle.run_facts.proofs.BatchFootprints.{before_it, behind_it}
 use Rattle.run_facts.proofs.RowsAccepted.{accepted_keeps, accepted_takes}
 use Rattle.run_facts.proofs.RowsNow.{kept_submitted}
@@ -118,9 +118,8 @@ module _ (s : State) (d : Disk) (kept : IsKept s d) (up : s.down ≡ None) where
   -- one that isn't in memory is in no flight, so that it can be read
   pub readable_now : (unit : ℕ) → HasPage (width_of s.log.sup) s.submitted unit → memory_of s unit ≡ None → IsUntouched d.flights unit
   readable_now unit has none = unflown s.log s.pending s.flying d.flights unit (kept.up up).flights.touches
-      (all_right (λ x. IsNone (take x.given x.fresh) unit) (batched s) s.pending
-      (none_given unit (uncommitted s) (none_of_bytes (all_fresh (uncommitted s)) unit none)))
-      (not_in_record s d kept up unit (page_on_data unit has))
+      (data_no_target s d kept up unit (page_on_data unit has) (all_right (λ x. IsNone (take x.given x.fresh) unit) (batched s) s.pending
+      (none_given unit (uncommitted s) (none_of_bytes (all_fresh (uncommitted s)) unit none))))
 
   -- a free unit isn't in memory
   pub free_not_in_memory : (unit : ℕ) → Contains (free_units s.space) unit → memory_of s unit ≡ None

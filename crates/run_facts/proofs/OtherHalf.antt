@@ -10,10 +10,10 @@ use Rattle.log_facts.specs.Prelude.{WritesNoneOf}
 use Rattle.log_facts.proofs.Keeping.{nothing_written, written_before, written_behind, data_spares_slots, data_spares_half, half_spares_slots}
 use Rattle.log_facts.proofs.Switching.{follows}
 use Rattle.switch_facts.specs.Prelude.{IsElsewhere}
-use Rattle.store_steps.specs.Prelude.{unsent_units, run_bytes, Touch, nothing, ends, flushes, on_data, on_half, event_of, IsPlaced}
+use Rattle.store_steps.specs.Prelude.{unsent_units, run_bytes, Touch, nothing, ends, flushes, on_data, on_half, on_other, on_slot, event_of, IsPlaced, IsNoOther}
 
 -- one half lies before the other
-halves_apart : (s : Super) → (active_unit s + s.half ≤ other_unit s) ⊎ (other_unit s + s.half ≤ active_unit s)
+pub halves_apart : (s : Super) → (active_unit s + s.half ≤ other_unit s) ⊎ (other_unit s + s.half ≤ active_unit s)
 halves_apart s = elim (cases_lt (s.epoch % 2) 1) [
   | inl first ↦
       let here : s.epoch % 2 ≡ 0 = omega (arith, first) in
@@ -39,11 +39,13 @@ data_spares_other s at bytes behind =
 quiet_elsewhere : (s : Super) (e : Event) → WritesNothing e → IsElsewhere s (Some e)
 quiet_elsewhere s e none = (nothing_written 0 2 e none, nothing_written (other_unit s) s.half e none)
 
-pub placed_elsewhere : (s : Super) (t : Touch) → IsPlaced s t → IsElsewhere s (event_of t)
-placed_elsewhere s nothing placed = tt
-placed_elsewhere s (ends ticket) placed = quiet_elsewhere s (Done ticket true) tt
-placed_elsewhere s (flushes ticket) placed = quiet_elsewhere s Flush tt
-placed_elsewhere s (on_data ticket run) placed =
+pub placed_elsewhere : (s : Super) (t : Touch) → IsNoOther t → IsPlaced s t → IsElsewhere s (event_of t)
+placed_elsewhere s nothing not placed = tt
+placed_elsewhere s (ends ticket) not placed = quiet_elsewhere s (Done ticket true) tt
+placed_elsewhere s (flushes ticket) not placed = quiet_elsewhere s Flush tt
+placed_elsewhere s (on_data ticket run) not placed =
     let bytes : List ℕ = run_bytes (unsent_units run) in
     (data_spares_slots s run.first.unit bytes placed.0.0.0, data_spares_other s run.first.unit bytes placed.0.0.0)
-placed_elsewhere s (on_half ticket unit bytes) placed = (half_spares_slots s unit bytes placed.0, half_spares_other s unit bytes placed.0 placed.1)
+placed_elsewhere s (on_half ticket unit bytes) not placed = (half_spares_slots s unit bytes placed.0, half_spares_other s unit bytes placed.0 placed.1)
+placed_elsewhere s (on_other ticket unit bytes) not placed = absurd not
+placed_elsewhere s (on_slot ticket unit bytes) not placed = absurd not

@@ -1,11 +1,15 @@
 -- What a change of one context leaves of the parts.
-use Rattle.std.proofs.Common.{◌≡◌, ℕ, ◌+◌, Bool, true, false, cond, List, [], ◌∷◌, ◌++◌, ◌==◌, take, refl, ap, ◌∙◌, arith, sym, append_assoc}
+use Rattle.std.proofs.Common.{◌≡◌, ℕ, ◌+◌, Bool, true, false, cond, List, [], ◌∷◌, ◌++◌, ◌==◌, take, drop, refl, ap, ◌∙◌, arith, sym, append_assoc}
 use Rattle.run_facts.proofs.Common.{flat_map, Disk, Context, FreshUnit}
-use Rattle.store_steps.specs.Prelude.{State, with_context, given_fresh, Intent, intent_of, intents, rows_part, data_part, half_part, other_part, book_part, Adds, nothing, BookGoes, IsCaused, Footprint, Touch, IsPlaced, events_of, DataGoes, HalfGoes}
+use Rattle.store_steps.specs.declared.flight.Switching.{Switching}
+use Rattle.store_steps.specs.Prelude.{State, check_pieces, flush_of, slot_phase, with_context, given_fresh, Intent, intent_of, intents, rows_part, data_part, half_part, other_part, book_part, Adds, nothing, BookGoes, IsCaused, Footprint, Touch, IsPlaced, event_of, ticket_of, events_of, IsNoData, IsNoPiece, IsNoOther, DataGoes, HalfGoes}
 use Rattle.store_steps.specs.RowsGo as rows
 use Rattle.store_steps.specs.DataGoes as units
 use Rattle.store_steps.specs.HalfGoes as half
 use Rattle.store_steps.specs.BookGoes as book
+use Rattle.meta_log.specs.Prelude.{in_runs}
+use Rattle.meta_store.specs.Store.{Meta, Checking}
+use Rattle.switch_facts.specs.Prelude.{CheckPart, OtherGoes}
 use Rattle.switch_facts.specs.OtherGoes as other
 use Rattle.run_facts.proofs.OtherHalf.{placed_elsewhere}
 
@@ -38,11 +42,16 @@ given_both [] ys = refl
 given_both (x ∷ xs) ys = ap (λ (fs : List FreshUnit). take x.given x.fresh ++ fs) (given_both xs ys)
     ∙ sym (append_assoc (take x.given x.fresh) (given_fresh xs) (given_fresh ys))
 
+-- what the log knows of a checkpoint that is written
+abbrev pub check_part : Meta → Checking → Switching → CheckPart
+check_part m c w =
+    record { is_left = in_runs (drop c.given (check_pieces m)); flush = flush_of w.flush; slot = slot_phase w.slot w.slot_flush }
+
 -- a call that changes neither rows nor book
-pub device_alone : (s : State) (d : Disk) (s' : State) (d' : Disk) (t : Touch) → Adds t d d' → IsPlaced s.log.sup t → s'.events ≡ s.events + events_of t
+pub device_alone : (s : State) (d : Disk) (s' : State) (d' : Disk) (t : Touch) → Adds t d d' → IsPlaced s.log.sup t → IsNoOther t → s'.events ≡ s.events + events_of t
     → rows_part s' ≡ rows_part s → DataGoes d.flights t (data_part s) (data_part s') → HalfGoes d.flights t (half_part s) (half_part s')
     → other_part s' ≡ other_part s → book_part s' ≡ book_part s → Footprint s d s' d'
-device_alone s d s' d' t adds placed counted same_rows units half same_other same_book = record {
+device_alone s d s' d' t adds placed elsewhere counted same_rows units half same_other same_book = record {
   touch = t;
   device = adds;
   placed = placed;
@@ -50,7 +59,24 @@ device_alone s d s' d' t adds placed counted same_rows units half same_other sam
   rows = rows.same same_rows;
   units = units;
   half = half;
-  other = other.same (placed_elsewhere s.log.sup t placed) same_other;
+  other = other.same (placed_elsewhere s.log.sup t elsewhere placed) same_other;
+  book = book.same same_book;
+  caused = tt;
+}
+
+-- a call that changes nothing but what is known of the slots and the other half
+pub other_alone : (s : State) (d : Disk) (s' : State) (d' : Disk) (t : Touch) → Adds t d d' → IsPlaced s.log.sup t → IsNoData t → IsNoPiece t
+    → s'.events ≡ s.events + events_of t → rows_part s' ≡ rows_part s → data_part s' ≡ data_part s → half_part s' ≡ half_part s
+    → OtherGoes d.flights (ticket_of t) (event_of t) (other_part s) (other_part s') → book_part s' ≡ book_part s → Footprint s d s' d'
+other_alone s d s' d' t adds placed no_data no_piece counted same_rows same_units same_half goes same_book = record {
+  touch = t;
+  device = adds;
+  placed = placed;
+  counted = counted;
+  rows = rows.same same_rows;
+  units = units.same no_data same_units;
+  half = half.same no_piece same_half;
+  other = goes;
   book = book.same same_book;
   caused = tt;
 }

@@ -1,14 +1,16 @@
 -- What a call makes of the rows keeps the room that transactions have reserved in the log, and which units are those of the store.
 use Rattle.std.proofs.Common.{◌≡◌, ℕ, ◌+◌, ◌-◌, ◌≤◌, List, [], ◌∷◌, ◌++◌, fold, map, sym, ap, subst, ◌∙◌, arith}
-use Rattle.run_facts.proofs.Common.{AllByRecursion, unit_count}
+use Rattle.run_facts.proofs.Common.{AllByRecursion, IsSuper, rows_after, unit_count}
+use Rattle.meta_rows.specs.Prelude.{FitsRowOp, AllFit}
+use Rattle.meta_rows.proofs.FitLemmas.{fit_still}
 use Rattle.selections.specs.Fair.{IsComplete}
 use Rattle.selections.proofs.Selecting.{complete_is_fair, all_selected}
 use Rattle.selections.proofs.Order.{fold_alike, each_is}
-use Rattle.space_facts.proofs.Prelude.{each_named, within_joined, within_applied}
-use Rattle.store_steps.specs.Prelude.{Intent, is_in, ops_by, rows_by, needs_by, released_by, RowsPart, RowsGo, NeedsEnough, AreRowsWithin}
+use Rattle.space_facts.proofs.Prelude.{each_named, rows_units-after, within_joined, within_applied, within_rewritten}
+use Rattle.store_steps.specs.Prelude.{Intent, is_in, ops_by, rows_by, needs_by, released_by, RowsPart, RowsGo, rows_units, NeedsEnough, AreRowsWithin}
 use Rattle.store_steps.specs.RowsGo as rows
 use Rattle.flight_facts.specs.Prelude.{FitsRecord}
-use Rattle.flight_facts.proofs.Prelude.{all_right, all_join}
+use Rattle.flight_facts.proofs.Prelude.{all_left, all_right, all_join}
 use Rattle.run_facts.specs.Prelude.{HasRoom, IsSpaceOf}
 use Rattle.run_facts.proofs.SpaceUnits.{space_taken, space_given}
 
@@ -40,11 +42,16 @@ pub needs_join : (xs ys : List Intent) → needs_by (xs ++ ys) ≡ needs_by xs +
 needs_join [] ys = omega arith
 needs_join (x ∷ xs) ys = omega (arith, needs_join xs ys)
 
+-- operations of several have a spelling where each one's do
+spelled_by : (xs : List Intent) → AllByRecursion FitsRecord xs → AllFit (ops_by xs)
+spelled_by [] all = tt
+spelled_by (x ∷ xs) all = all_join FitsRowOp x.ops (ops_by xs) (all.0).fit (spelled_by xs all.1)
+
 -- ---- each change
 
 -- one that joins has room for its record
 abbrev pub HasRoomTo : (p : RowsPart) {q : RowsPart} → RowsGo p q → Type 0
-HasRoomTo p (rows.joins x is) = FitsRecord x × (p.tail + (p.reserved + x.need) ≤ p.sup.half)
+HasRoomTo p (rows.joins x is) = FitsRecord x × (rows_units p.rows + (p.reserved + x.need) ≤ p.sup.half)
 HasRoomTo p other = Unit {0}
 
 pub room_go : (p q : RowsPart) (goes : RowsGo p q) → HasRoomTo p goes → HasRoom p → HasRoom q
@@ -53,25 +60,41 @@ room_go p q (rows.joins x is) to has = subst HasRoom (sym is) (record {
   fits = all_join FitsRecord p.intents (x ∷ []) has.fits (to.0, tt);
   reserved = omega (arith, has.reserved, needs_join p.intents (x ∷ []));
   room = to.1;
+  tail = has.tail;
+  spelled = has.spelled;
 })
 room_go p q (rows.reorders later complete is) to has = subst HasRoom (sym is) (record {
   fits = all_selected is_in each_named FitsRecord p.intents later (complete_is_fair is_in p.intents later complete) has.fits;
   reserved = has.reserved ∙ sym (needs_alike p.intents later complete);
   room = has.room;
+  tail = has.tail;
+  spelled = has.spelled;
 })
+room_go p q (rows.switches number limits is) to has = subst HasRoom (sym is) (record {
+  fits = has.fits;
+  reserved = has.reserved;
+  room = has.room;
+  tail = front (rows_units p.rows) p.reserved p.sup.half has.room;
+  spelled = has.spelled;
+})
+  where
+    front : (units reserved half : ℕ) → units + reserved ≤ half → units ≤ half
+    front units reserved half le = omega (arith, le)
 room_go p q (rows.applies number front back both fits is) to has = subst HasRoom (sym is) (record {
   fits = all_right FitsRecord front back (subst (AllByRecursion FitsRecord) both has.fits);
   reserved = rest p.reserved (needs_by front) (needs_by back) (has.reserved ∙ ap needs_by both ∙ needs_join front back);
-  room = behind p.tail p.reserved p.sup.half (unit_count number (ops_by front)) (needs_by front) (needs_by back) has.room fits
-      (has.reserved ∙ ap needs_by both ∙ needs_join front back);
+  room = behind (rows_units p.rows) (rows_units (rows_after p.rows (ops_by front))) p.reserved p.sup.half (unit_count number (ops_by front)) (needs_by front)
+      (needs_by back) has.room fits.0 (has.reserved ∙ ap needs_by both ∙ needs_join front back) (rows_units-after p.rows number (ops_by front));
+  tail = fits.1;
+  spelled = fit_still p.rows (ops_by front) has.spelled (spelled_by front (all_left FitsRecord front back (subst (AllByRecursion FitsRecord) both has.fits)));
 })
   where
     rest : (reserved front back : ℕ) → reserved ≡ front + back → reserved - front ≡ back
     rest reserved front back is = omega (arith, is)
 
-    behind : (tail reserved half units front back : ℕ) → tail + reserved ≤ half → units ≤ front → reserved ≡ front + back
-        → (tail + units) + (reserved - front) ≤ half
-    behind tail reserved half units front back le fits is = omega (arith, le, fits, is)
+    behind : (rows later reserved half units front back : ℕ) → rows + reserved ≤ half → units ≤ front → reserved ≡ front + back → later ≤ rows + units
+        → later + (reserved - front) ≤ half
+    behind rows later reserved half units front back le fits is more = omega (arith, le, fits, is, more)
 
 -- the record of one that fits takes what it needs
 takes : (x : Intent) → FitsRecord x → NeedsEnough x
@@ -94,6 +117,8 @@ within_go p q (rows.reorders later complete is) to are has within =
 within_go p q (rows.applies number front back both fits is) to are has within = subst AreRowsWithin (sym is)
     (within_applied p number front back (are ∙ ap (rows_by p.rows) both) (has.reserved ∙ ap needs_by both ∙ needs_join front back)
     (enough back (all_right FitsRecord front back (subst (AllByRecursion FitsRecord) both has.fits))) within)
+within_go p q (rows.switches number limits is) to are has within =
+    subst AreRowsWithin (sym is) (within_rewritten p number are has.reserved (enough p.intents has.fits))
 
 -- which units are those of the store isn't changed
 pub space_go : (p q : RowsPart) → RowsGo p q → IsSpaceOf p.sup p.space → IsSpaceOf q.sup q.space
@@ -103,10 +128,27 @@ space_go p q (rows.joins x is) has =
 space_go p q (rows.reorders later complete is) has = subst (λ (r : RowsPart). IsSpaceOf r.sup r.space) (sym is) has
 space_go p q (rows.applies number front back both fits is) has =
     subst (λ (r : RowsPart). IsSpaceOf r.sup r.space) (sym is) (space_given p.sup p.space (released_by front) has)
+space_go p q (rows.switches number limits is) has =
+    subst (λ (r : RowsPart). IsSpaceOf r.sup r.space) (sym is) (record { first = has.first; count = has.count })
 
--- nor is the super
-pub sup_go : (p q : RowsPart) → RowsGo p q → q.sup ≡ p.sup
-sup_go p q (rows.same is) = ap (λ (r : RowsPart). r.sup) is
-sup_go p q (rows.joins x is) = ap (λ (r : RowsPart). r.sup) is
-sup_go p q (rows.reorders later complete is) = ap (λ (r : RowsPart). r.sup) is
-sup_go p q (rows.applies number front back both fits is) = ap (λ (r : RowsPart). r.sup) is
+-- nor how the store is divided, and its superblock has its limits
+pub super_go : (p q : RowsPart) → RowsGo p q → IsSuper p.sup → IsSuper q.sup
+super_go p q (rows.same is) has = subst (λ (r : RowsPart). IsSuper r.sup) (sym is) has
+super_go p q (rows.joins x is) has = subst (λ (r : RowsPart). IsSuper r.sup) (sym is) has
+super_go p q (rows.reorders later complete is) has = subst (λ (r : RowsPart). IsSuper r.sup) (sym is) has
+super_go p q (rows.applies number front back both fits is) has = subst (λ (r : RowsPart). IsSuper r.sup) (sym is) has
+super_go p q (rows.switches number limits is) has = subst (λ (r : RowsPart). IsSuper r.sup) (sym is) limits
+
+pub units_go : (p q : RowsPart) → RowsGo p q → q.sup.units ≡ p.sup.units
+units_go p q (rows.same is) = ap (λ (r : RowsPart). r.sup.units) is
+units_go p q (rows.joins x is) = ap (λ (r : RowsPart). r.sup.units) is
+units_go p q (rows.reorders later complete is) = ap (λ (r : RowsPart). r.sup.units) is
+units_go p q (rows.applies number front back both fits is) = ap (λ (r : RowsPart). r.sup.units) is
+units_go p q (rows.switches number limits is) = ap (λ (r : RowsPart). r.sup.units) is
+
+pub half_go : (p q : RowsPart) → RowsGo p q → q.sup.half ≡ p.sup.half
+half_go p q (rows.same is) = ap (λ (r : RowsPart). r.sup.half) is
+half_go p q (rows.joins x is) = ap (λ (r : RowsPart). r.sup.half) is
+half_go p q (rows.reorders later complete is) = ap (λ (r : RowsPart). r.sup.half) is
+half_go p q (rows.applies number front back both fits is) = ap (λ (r : RowsPart). r.sup.half) is
+half_go p q (rows.switches number limits is) = ap (λ (r : RowsPart). r.sup.half) is

@@ -4,7 +4,7 @@ use Rattle.run_facts.proofs.Common.{Rows, rows_after, IsSuper, given}
 use Rattle.selections.specs.Fair.{IsComplete}
 use Rattle.store_steps.specs.Prelude.{Intent, is_in, released_by, rows_by, EachIsPlanned, AreTakenApart, SpaceIsCounted, CanJoin, RowsPart, RowsGo, joined, applied}
 use Rattle.store_steps.specs.RowsGo as rows
-use Rattle.space_facts.proofs.Prelude.{rows_append, rows_by_ops, each_joined, apart_joined, each_alike, rows_alike, apart_alike, each_committed, good_committed, apart_committed, counted_alike, counted_joined, counted_committed}
+use Rattle.space_facts.proofs.Prelude.{rows_append, rows_by_ops, each_joined, apart_joined, each_alike, rows_alike, apart_alike, each_committed, good_committed, apart_committed, counted_alike, counted_joined, counted_committed, good_switched, planned_switched}
 use Rattle.run_facts.specs.Prelude.{IsSpaceOf, AreRowsKept}
 use Rattle.run_facts.proofs.SpaceUnits.{data_within}
 use Rattle.run_facts.proofs.Holds.{nothing_is_held, holds_taken, holds_given}
@@ -73,3 +73,11 @@ rows_go p q (rows.joins x is) limits space may kept = subst AreRowsKept (sym is)
 rows_go p q (rows.reorders later complete is) limits space may kept = subst AreRowsKept (sym is) (reorder_keeps p limits space kept later complete)
 rows_go p q (rows.applies number front back both fits is) limits space may kept =
     subst AreRowsKept (sym is) (apply_keeps p limits space kept number front back both)
+rows_go p q (rows.switches number next is) limits space may kept = subst AreRowsKept (sym is) (record {
+  submitted = kept.submitted;
+  good = good_switched p.sup number p.rows kept.good;
+  planned = planned_switched p.sup number p.rows p.intents kept.planned;
+  apart = kept.apart;
+  counted = kept.counted;
+  held = kept.held;
+})

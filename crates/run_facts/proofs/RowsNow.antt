@@ -23,9 +23,9 @@ module _ (s : State) (d : Disk) (kept : IsKept s d) (up : s.down ≡ None) where
 
   -- the submitted rows as one record fit half of the log
   pub submitted_short : rows_size s.submitted ≤ 2 ^ 28
-  submitted_short = short (rows_size s.submitted) (rows_units s.submitted) s.log.tail s.log.reserved s.log.sup.half (rows_units-bytes s.submitted)
+  submitted_short = short (rows_size s.submitted) (rows_units s.submitted) (rows_units s.log.rows) s.log.reserved s.log.sup.half (rows_units-bytes s.submitted)
       (kept.up up).within.submitted (kept.up up).room.room kept.always.limits.half_most
     where
-      short : (bytes units tail reserved half : ℕ) → bytes ≤ 4096 * units → units ≤ tail + reserved → tail + reserved ≤ half → half ≤ 65536
+      short : (bytes units rows reserved half : ℕ) → bytes ≤ 4096 * units → units ≤ rows + reserved → rows + reserved ≤ half → half ≤ 65536
           → bytes ≤ 2 ^ 28
-      short bytes units tail reserved half le within room most = omega (arith, le, within, room, most)
+      short bytes units rows reserved half le within room most = omega (arith, le, within, room, most)

@@ -1,7 +1,8 @@
 -- What the kernel keeps, whatever its device tells.
-use Rattle.std.specs.Prelude.{◌≡◌, ℕ, ◌+◌, ◌≤◌, ◌^◌, [], length, None}
+use Rattle.std.specs.Prelude.{◌≡◌, ℕ, ◌+◌, ◌≤◌, ◌^◌, [], None}
 use Rattle.block_device.specs.Prelude.{Disk, IsSound}
-use Rattle.meta_log.specs.Prelude.{IsSuper}
+use Rattle.meta_rows.specs.Prelude.{RowsFit}
+use Rattle.meta_log.specs.Prelude.{IsSuper, AreRunsFrom}
 use Rattle.unit_allocator.specs.Prelude.{Space}
 use Rattle.plan_rows.specs.Prelude.{IsGood}
 use Rattle.store_steps.specs.Prelude.{State, Found, SpaceIsCounted, HoldsAreCounted, rows_units, AreRowsWithin, rows_part, book_part}
@@ -20,13 +21,15 @@ pub record IsAlwaysKept (s : State) (d : Disk) : Type 0 where
   pub book : IsBookKept (book_part s)
   pub events : s.events + work_left s ≤ budget s
   pub numbers : s.log.number + work_left s ≤ budget s
+  pub epochs : s.log.sup.epoch + work_left s ≤ budget s
 
 -- what it keeps while it isn't
 pub record IsKeptUp (s : State) (d : Disk) : Type 0 where
-  pub flights : FlightsMatch s.log (length s.book.entries) s.pending s.batch s.flying d.flights
+  pub flights : FlightsMatch s d.flights
   pub rows : AreRowsKept (rows_part s)
   pub room : HasRoom (rows_part s)
   pub within : AreRowsWithin (rows_part s)
+  pub stale : AreRunsFrom 0 s.log.sup.half s.log.stale
 
 pub record IsKept (s : State) (d : Disk) : Type 0 where
   pub always : IsAlwaysKept s d
@@ -38,7 +41,10 @@ pub record IsOpenable (f : Found) (s : Space) (units : ℕ) : Type 0 where
   pub units_are : f.sup.units ≡ units
   pub number : f.number ≤ 2 ^ 61
   pub tail : f.tail ≤ f.sup.half
+  pub epoch : f.sup.epoch ≤ 2 ^ 61
   pub within : rows_units f.rows ≤ f.tail
+  pub spelled : RowsFit f.rows
+  pub stale : AreRunsFrom 0 f.sup.half f.stale
   pub good : IsGood f.sup f.rows
   pub space : IsSpaceOf f.sup s
   pub counted : SpaceIsCounted f.sup f.rows [] s

@@ -2,14 +2,17 @@
 use Rattle.std.specs.Prelude.{◌≡◌, ℕ, ◌+◌, ◌≤◌, List, length, slice_get, IfSome, is_some, nat_lt}
 use Rattle.std.specs.List.{AllByRecursion}
 use Rattle.object_model.specs.declared.book.Commit.{Commit}
-use Rattle.store_steps.specs.Prelude.{State, needs_by, RowsPart, BookPart}
+use Rattle.meta_rows.specs.Prelude.{RowsFit}
+use Rattle.store_steps.specs.Prelude.{State, needs_by, rows_units, RowsPart, BookPart}
 use Rattle.flight_facts.specs.Prelude.{FitsRecord}
 
--- what is reserved is what the transactions under way need, and it fits behind the tail
+-- What is reserved is what the transactions under way need, and it fits a half behind the committed rows as one record, which have a spelling.
 pub record HasRoom (p : RowsPart) : Type 0 where
   pub fits : AllByRecursion FitsRecord p.intents
   pub reserved : p.reserved ≡ needs_by p.intents
-  pub room : p.tail + p.reserved ≤ p.sup.half
+  pub room : rows_units p.rows + p.reserved ≤ p.sup.half
+  pub tail : p.tail ≤ p.sup.half
+  pub spelled : RowsFit p.rows
 
 -- A commit has an entry, and so has each context that waits; entries are at most 1048576.
 pub record AreEntriesFew (s : State) : Type 0 where

@@ -1,11 +1,14 @@
 //! What the kernel keeps, and that its steps come to an end. Each function has laws for its contract and does nothing.
-ghost use Rattle.std.specs.Prelude.{◌≡◌, ℕ, ◌+◌, ◌*◌, ◌^◌, ◌<◌, ◌≤◌, Bool, true, List, [], length, Contains, Option, Some, None, is_some, if◌then◌else◌};
+ghost use Rattle.std.specs.Prelude.{◌≡◌, ℕ, ◌+◌, ◌*◌, ◌^◌, ◌<◌, ◌≤◌, Bool, true, List, [], length, slice_get, Contains, Option, Some, None, is_some, if◌then◌else◌};
 ghost use Rattle.std.specs.List.{AllByRecursion};
 ghost use Rattle.std.specs.Option.{option_or};
 ghost use Rattle.block_device.specs.declared.device.Ticket.{Ticket};
 ghost use Rattle.block_device.specs.Prelude.{Disk, IsSound, IsNotInFlight, IsUntouched};
-ghost use Rattle.meta_rows.specs.Prelude.{ops_bytes, rows_size, AllFit};
-ghost use Rattle.meta_log.specs.Prelude.{unit_count, active_unit, width_of};
+ghost use Rattle.meta_rows.specs.Prelude.{ops_bytes, row_sets, rows_size, AllFit};
+ghost use Rattle.meta_log.specs.declared.runs.UnitRun.{UnitRun};
+ghost use Rattle.meta_log.specs.Prelude.{IsSuper, unit_count, check_units, active_unit, other_unit, other_slot, next_super, width_of};
+ghost use Rattle.log_facts.specs.Prelude.{IsSpellable};
+ghost use Rattle.switch_facts.specs.Prelude.{IsPieceOf, AreApart};
 ghost use Rattle.object_model.specs.Prelude.{Change};
 ghost use Rattle.store_image.specs.Prelude.{HasPage};
 ghost use Rattle.plan_rows.specs.declared.plan.Plan.{Plan};
@@ -14,10 +17,10 @@ ghost use Rattle.object_model.specs.declared.command.Command.{Command};
 ghost use Rattle.object_model.specs.declared.command.Answer.{Answer};
 ghost use Rattle.unit_allocator.specs.Prelude.{Space, free_units};
 ghost use Rattle.store_steps.specs.declared.step.Step.{Step};
-ghost use Rattle.store_steps.specs.declared.step.Step.TheVariants.{Data, Flush, Seal, Record, Sync};
+ghost use Rattle.store_steps.specs.declared.step.Step.TheVariants.{Data, Flush, Seal, Record, Sync, CheckWrite, CheckFlush, SlotWrite, SlotFlush};
 ghost use Rattle.store_steps.specs.declared.context.Context.{Context};
-ghost use Rattle.meta_store.specs.Store.{Begun};
-ghost use Rattle.store_steps.specs.Prelude.{Batch, State, Unsent, unsent_units, run_bytes, next_unsent, batch_ops, piece_unit, piece_bytes, Found, opened, is_ready, is_ready_up, is_drained, DoesOrFails, Reads, Call, Calls, IsRun, Accepts, Refuses, chosen, accepted_with, data_sent, reaped, taken_up, committed_batch, uncommitted, all_fresh, bytes_in, memory_of, intents, SpaceIsCounted, HoldsAreCounted, Footprint};
+ghost use Rattle.meta_store.specs.Store.{Begun, Checking};
+ghost use Rattle.store_steps.specs.Prelude.{Batch, State, Unsent, unsent_units, run_bytes, next_unsent, batch_ops, check_pieces, piece_unit, piece_bytes, Found, opened, is_ready, is_ready_up, is_drained, DoesOrFails, Reads, Call, Calls, IsRun, Accepts, Refuses, chosen, accepted_with, data_sent, reaped, taken_up, committed_batch, uncommitted, all_fresh, bytes_in, memory_of, intents, SpaceIsCounted, HoldsAreCounted, Footprint};
 ghost use Rattle.flight_facts.specs.Prelude.{measure};
 ghost use Rattle.run_facts.specs.Prelude.{IsKept, IsOpenable};
 
@@ -92,30 +95,53 @@ pub fn opened_keeps()
         → IsOpenable f space d.units → IsKept (opened f space events) d }
 {}
 
-/// A drained kernel that isn't down has nothing under way: no context, no batch, nothing in flight, and each commit is acknowledged.
+/// A drained kernel that isn't down has nothing under way: no context, no batch, no switch of halves, nothing set aside in the log, nothing in flight, and
+/// each commit is acknowledged.
 #[tactic(auto, using(crate::proofs::Known::idle_laws))]
 pub fn drained_is_idle()
     ensures pending { (s : State) (d : Disk) → IsKept s d → s.down ≡ None → is_drained d.depth s ≡ true → s.pending ≡ [] }
     ensures batch { (s : State) (d : Disk) → IsKept s d → s.down ≡ None → is_drained d.depth s ≡ true → s.batch ≡ None }
+    ensures switching { (s : State) (d : Disk) → IsKept s d → s.down ≡ None → is_drained d.depth s ≡ true → s.switching ≡ None }
+    ensures check { (s : State) (d : Disk) → IsKept s d → s.down ≡ None → is_drained d.depth s ≡ true → s.log.check ≡ None }
+    ensures reserved { (s : State) (d : Disk) → IsKept s d → s.down ≡ None → is_drained d.depth s ≡ true → s.log.reserved ≡ 0 }
     ensures flights { (s : State) (d : Disk) → IsKept s d → s.down ≡ None → is_drained d.depth s ≡ true → d.flights ≡ [] }
     ensures acked { (s : State) (d : Disk) → IsKept s d → s.down ≡ None → is_drained d.depth s ≡ true → s.acked ≡ length s.book.commits }
 {}
 
 /// Where the first flush of a batch is ready, no write in flight touches a unit of the batch; where the second is, none touches a unit of its
-/// record. So what a flush is to make stable has ended before it is submitted.
+/// record. Where the flush behind a checkpoint is ready, none touches a unit of the other half; where the one behind the next superblock is, none
+/// touches its slot. So what a flush is to make stable has ended before it is submitted.
 pub fn flushes_cover()
     ensures flush { (s : State) (d : Disk) (batch : Batch) → IsKept s d → is_ready Flush d.depth s ≡ true → s.batch ≡ Some batch
         → AllByRecursion (λ f. IsUntouched d.flights f.unit) (all_fresh batch.contexts) }
     ensures sync { (s : State) (d : Disk) (writing : Begun) (j : ℕ) → IsKept s d → is_ready Sync d.depth s ≡ true → s.log.begun ≡ Some writing
         → j < unit_count s.log.number writing.ops → IsUntouched d.flights (active_unit s.log.sup + (s.log.tail + j)) }
+    ensures check { (s : State) (d : Disk) (k : ℕ) → IsKept s d → is_ready CheckFlush d.depth s ≡ true → k < s.log.sup.half
+        → IsUntouched d.flights (other_unit s.log.sup + k) }
+    ensures slot { (s : State) (d : Disk) → IsKept s d → is_ready SlotFlush d.depth s ≡ true → IsUntouched d.flights (other_slot s.log.sup) }
 {}
 
-/// Several data writes of a transaction may be in flight at once, and several pieces of its record: none touches a unit of another.
+/// Several data writes of a transaction may be in flight at once, several pieces of its record, and several of a checkpoint: none touches a unit of
+/// another. The next superblock is written alone.
 pub fn next_is_untouched()
     ensures data { (s : State) (d : Disk) (next : Unsent) → IsKept s d → is_ready Data d.depth s ≡ true → next_unsent s.pending ≡ Some next
         → IsNotInFlight d next.first.unit (length (run_bytes (unsent_units next))) }
     ensures record { (s : State) (d : Disk) (writing : Begun) → IsKept s d → is_ready Record d.depth s ≡ true → s.log.begun ≡ Some writing
         → IsNotInFlight d (piece_unit s.log writing) (length (piece_bytes s.log.number writing)) }
+    ensures check { (s : State) (d : Disk) (checking : Checking) (run : UnitRun) → IsKept s d → is_ready CheckWrite d.depth s ≡ true
+        → s.log.check ≡ Some checking → slice_get (check_pieces s.log) checking.given ≡ Some run
+        → IsNotInFlight d (other_unit s.log.sup + run.first) (4096 * run.count) }
+    ensures slot { (s : State) (d : Disk) → IsKept s d → is_ready SlotWrite d.depth s ≡ true → IsNotInFlight d (other_slot s.log.sup) 4096 }
+{}
+
+/// A checkpoint can be written at any time: the committed rows as one record have a spelling and fit a half, each of its pieces can be written at
+/// once, and the superblock that follows has its limits.
+pub fn a_checkpoint_can_be_written()
+    ensures fits { (s : State) (d : Disk) → IsKept s d → s.down ≡ None → check_units s.log.number s.log.rows ≤ s.log.sup.half }
+    ensures spelled { (s : State) (d : Disk) → IsKept s d → s.down ≡ None → IsSpellable s.log.number (row_sets s.log.rows) }
+    ensures pieces { (s : State) (d : Disk) → IsKept s d → s.down ≡ None → AllByRecursion (IsPieceOf s.log.sup.half) (check_pieces s.log) }
+    ensures apart { (s : State) (d : Disk) → IsKept s d → s.down ≡ None → AreApart (check_pieces s.log) }
+    ensures follows { (s : State) (d : Disk) → IsKept s d → s.down ≡ None → IsSuper (next_super s.log.sup s.log.number) }
 {}
 
 /// The next data write is of 1 to 64 whole units of the device. A batch whose record can be made has a spelling for it, and the log

@@ -9,8 +9,8 @@
 mod laws;
 
 pub use laws::{
-    a_call_has_a_footprint, a_run_keeps_what_the_kernel_keeps, bytes_are_in_memory_until_committed,
-    drained_is_idle, flushes_cover, idle_units_are_not_busy, next_is_untouched, opened_keeps,
-    steps_have_room, steps_keep, submitted_rows_are_short, transactions_keep,
-    units_not_in_memory_can_be_read,
+    a_call_has_a_footprint, a_checkpoint_can_be_written, a_run_keeps_what_the_kernel_keeps,
+    bytes_are_in_memory_until_committed, drained_is_idle, flushes_cover, idle_units_are_not_busy,
+    next_is_untouched, opened_keeps, steps_have_room, steps_keep, submitted_rows_are_short,
+    transactions_keep, units_not_in_memory_can_be_read,
 };

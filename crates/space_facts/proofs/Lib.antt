@@ -6,5 +6,6 @@ pub mod Moving
 pub mod Idle
 pub mod Spaces
 pub mod Within
+pub mod Supers
 pub mod Example
 pub mod Prelude

@@ -6,4 +6,5 @@ pub use Rattle.space_facts.proofs.Joining.{each_joined, suits_last, rows_last, a
 pub use Rattle.space_facts.proofs.Moving.{each_none, apart_none, each_alike, rows_alike, apart_alike, first_taken, each_committed, batch_fair, good_committed, pending_unmarked, apart_committed}
 pub use Rattle.space_facts.proofs.Idle.{listed_is_idle, busy_is_not_free}
 pub use Rattle.space_facts.proofs.Spaces.{taken_busy, counted_alike, counted_none, free_over, free_joins, counted_joined, released_on_data, counted_committed, not_idle_until}
-pub use Rattle.space_facts.proofs.Within.{rows_units-bytes, rows_units-records, within_opened, within_joined, within_applied}
+pub use Rattle.space_facts.proofs.Within.{rows_units-bytes, rows_units-records, rows_units-after, check_units_are, within_opened, within_joined, within_applied, within_rewritten}
+pub use Rattle.space_facts.proofs.Supers.{good_switched, planned_switched}

@@ -5,12 +5,12 @@ ghost use Rattle.std.specs.FinMap as finite;
 ghost use Rattle.meta_rows.specs.Prelude.{Rows, rows_after, rows_of_records, rows_size};
 ghost use Rattle.meta_rows.specs.declared.row_op.RowOp.{RowOp};
 ghost use Rattle.meta_log.specs.declared.slot.Super.{Super};
-ghost use Rattle.meta_log.specs.Prelude.{width_of, IsSuper, unit_count, units_of_records};
+ghost use Rattle.meta_log.specs.Prelude.{width_of, IsSuper, unit_count, units_of_records, check_units, next_super};
 ghost use Rattle.store_image.specs.Prelude.{IsDataUnit, IsMarked, IsLeaked, IsExactAs, IsBusy};
 ghost use Rattle.unit_allocator.specs.Prelude.{Space, is_idle, free_units, taken, given};
 ghost use Rattle.plan_rows.specs.Prelude.{AreFreeOver, fresh_units, IsGood, Suits, PlanKeeps};
 ghost use Rattle.selections.specs.Fair.{under, IsFair, IsComplete, HasLast};
-ghost use Rattle.store_steps.specs.Prelude.{Intent, names_in, is_in, plan_of, rows_by, ops_by, released_by, EachIsPlanned, AreTakenApart, SpaceIsCounted, CanJoin, needs_by, RowsPart, joined, applied, rows_units, NeedsEnough, AreRowsWithin};
+ghost use Rattle.store_steps.specs.Prelude.{Intent, names_in, is_in, plan_of, rows_by, ops_by, released_by, EachIsPlanned, AreTakenApart, SpaceIsCounted, CanJoin, needs_by, RowsPart, joined, applied, rewritten, rows_units, NeedsEnough, AreRowsWithin};
 ghost use Rattle.space_facts.specs.Example.{two, no_rows};
 ghost use Rattle.space_facts.specs.Spaces.{HasDataUnits, HasOnlyDataUnits};
 ghost use Rattle.space_facts.specs.Owning.{OwnTheirUnits};
@@ -102,6 +102,13 @@ pub fn commits_keep_plans()
         → EachIsPlanned sup rows (batch ++ pending) → AreTakenApart rows (batch ++ pending) → AreTakenApart (rows_by rows batch) pending }
 {}
 
+/// Where the halves change places the rows are good still, and each is planned over them as before.
+pub fn switches_keep_plans()
+    ensures good { (sup : Super) (number : ℕ) (rows : Rows) → IsGood sup rows → IsGood (next_super sup number) rows }
+    ensures planned { (sup : Super) (number : ℕ) (rows : Rows) (xs : List Intent) → EachIsPlanned sup rows xs
+        → EachIsPlanned (next_super sup number) rows xs }
+{}
+
 /// A data unit is idle exactly where it isn't busy, after a submission that takes its units and after a commit that gives back what its batch
 /// released, whoever holds these.
 pub fn space_stays_counted()
@@ -128,16 +135,20 @@ pub fn rows_are_no_longer_than_records()
     ensures after { (rows : Rows) (number : ℕ) (ops : List RowOp) → rows_units (rows_after rows ops) ≤ rows_units rows + unit_count number ops }
     ensures made { (number : ℕ) (records : List (List RowOp)) → rows_units (rows_of_records finite.empty records) ≤ units_of_records number records }
     ensures bytes { (rows : Rows) → rows_size rows ≤ 4096 * rows_units rows }
+    ensures check { (number : ℕ) (rows : Rows) → check_units number rows ≡ rows_units rows }
 {}
 
-/// The committed rows stay within the records of the log, and the submitted ones within these and what is reserved: when a kernel is opened, when a
-/// transaction joins that reserves enough, and when the first ones are committed, whatever of what they had reserved is left over then.
+/// The committed rows stay within the records of the log, and the submitted ones within the committed ones and what is reserved: when a kernel is
+/// opened, when a transaction joins that reserves enough, when the first ones are committed, whatever of what they had reserved is left over then, and when the
+/// halves change places.
 pub fn rows_stay_within_the_log()
     ensures opened { (p : RowsPart) → p.submitted ≡ p.rows → rows_units p.rows ≤ p.tail → AreRowsWithin p }
     ensures joined { (p : RowsPart) (x : Intent) → NeedsEnough x → AreRowsWithin p → AreRowsWithin (joined x p) }
     ensures applied { (p : RowsPart) (number : ℕ) (front back : List Intent) → p.submitted ≡ rows_by p.rows (front ++ back)
         → p.reserved ≡ needs_by front + needs_by back → AllByRecursion NeedsEnough back → AreRowsWithin p
         → AreRowsWithin (applied number front back p) }
+    ensures rewritten { (p : RowsPart) (number : ℕ) → p.submitted ≡ rows_by p.rows p.intents → p.reserved ≡ needs_by p.intents
+        → AllByRecursion NeedsEnough p.intents → AreRowsWithin (rewritten number p) }
 {}
 
 /// An example: a transaction takes unit 18, and a later one takes 19 and releases 18. While both are under way the bit of 18 is 0 in the committed

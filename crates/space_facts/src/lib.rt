@@ -16,4 +16,5 @@ pub use laws::{
     one_more_is_planned, one_more_may_come_last, order_between_collections, released_are_busy,
     released_come_back_in_turn, rows_are_no_longer_than_records, rows_by_intents,
     rows_stay_within_the_log, selections_own, selections_stay_good, space_stays_counted,
+    switches_keep_plans,
 };

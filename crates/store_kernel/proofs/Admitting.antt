@@ -22,6 +22,7 @@ use Rattle.plan_drafts.specs.Prelude.{IsKnown, fresh_units, PlanKeeps, PlanTakes
 use Rattle.draft_rows.proofs.PlanLaws.{plans_keep, plans_short}
 use Rattle.store_steps.specs.declared.context.Context.{Context}
 use Rattle.store_steps.specs.declared.flight.Flying.{Flying}
+use Rattle.store_steps.specs.declared.flight.Switching.{Switching}
 use Rattle.store_steps.specs.Prelude.{State, CanNote, Accepts, accepted_with, need_of, memory_of, IsReadNow}
 use Rattle.run_facts.specs.Prelude.{IsKept}
 use Rattle.run_facts.proofs.Prelude.{kept_submitted, kept_free, submitted_short, fresh_not_in_memory}
@@ -185,11 +186,11 @@ fresh_absent s d change plan memory kept can known is same =
     subst (λ (m : ℕ → Option (List ℕ)). AllByRecursion (λ f. m f.unit ≡ None) plan.fresh) (sym same)
     (fresh_not_in_memory s d kept can.up plan.fresh takes.free)
 
-module _ (m : meta.Meta) (submitted : Rows) (pending : List Context) (batch : Option OpenBatch) (flying : List Flying) (down : Option Ticket)
-    (events : ℕ) (space : Space) (entries : List Entry) (commits : List Commit) (acked : ℕ) where
+module _ (m : meta.Meta) (submitted : Rows) (pending : List Context) (batch : Option OpenBatch) (switching : Option Switching) (flying : List Flying)
+    (down : Option Ticket) (events : ℕ) (space : Space) (entries : List Entry) (commits : List Commit) (acked : ℕ) where
   -- the state of these parts
   abbrev before : State
-  before = state_of m submitted pending batch flying down events space entries commits acked
+  before = state_of m submitted pending batch switching flying down events space entries commits acked
 
   module _ (client line : ℕ) (change : Change) (ready : Prepared) (d : Disk)
       (m' : meta.Meta) (submitted' : Rows) (pending' : List Context) (x : Context) (place : ℕ) (space' : Space) (entries' : List Entry)
@@ -201,7 +202,7 @@ module _ (m : meta.Meta) (submitted : Rows) (pending : List Context) (batch : Op
       (is_entries : entries' ≡ entries ++ record { client = client; line = line; command = ask.Change change; answer = answer.Accepted; acks = acked } ∷ []) where
     -- the kernel's parts after it was accepted
     abbrev after_it : State
-    after_it = state_of m' submitted' pending' batch flying down events space' entries' commits acked
+    after_it = state_of m' submitted' pending' batch switching flying down events space' entries' commits acked
 
     pub accepted_state : after_it ≡ accepted_with client line change ready.plan before
     accepted_state =

@@ -1,6 +1,6 @@
 -- What the steps that the device has no part in do to the state.
-use Rattle.std.proofs.Common.{◌≡◌, inl, inr, ℕ, zero, suc, ◌+◌, ◌^◌, ◌<◌, ◌≤◌, nat_lt, Bool, true, false, cond, List, [], ◌∷◌, ◌++◌, length, Option, Some, None, is_some, is_none, slice_get, get_or, set, refl, sym, ap, subst, ◌∙◌, append-nil, arith}
-use Rattle.std.specs.Prelude.{Contains}
+use Rattle.std.proofs.Common.{◌≡◌, inl, inr, ℕ, zero, suc, ◌+◌, ◌-◌, ◌&&◌, ◌^◌, ◌<◌, ◌≤◌, nat_lt, Bool, true, false, cond, List, [], ◌∷◌, ◌++◌, length, Option, Some, None, is_some, is_none, slice_get, get_or, set, refl, sym, ap, subst, ◌∙◌, append-nil, arith}
+use Rattle.std.specs.Prelude.{Contains, IfSome}
 use Rattle.unit_allocator.proofs.Lists.{Contains-head}
 use Rattle.std.proofs.lemmas.List.Elements.{Contains-append_right}
 use Rattle.std.proofs.lemmas.Bool.{lt-ltb, le-ltb, and_parts, cases_lt}
@@ -10,17 +10,23 @@ use Rattle.object_model.specs.declared.book.Commit.{Commit}
 use Rattle.meta_rows.specs.declared.row_op.RowOp.{RowOp}
 use Rattle.meta_log.specs.Prelude.{unit_count, piece_count}
 use Rattle.meta_store.specs.Store as meta
+use Rattle.meta_store.specs.Checks.{with_check}
 use Rattle.unit_allocator.specs.Prelude.{given}
 use Rattle.store_steps.specs.declared.context.Context.{Context}
 use Rattle.store_steps.specs.declared.flight.FlushState.TheVariants as flush
-use Rattle.store_steps.specs.Prelude.{Batch, State, chosen, without_context, batch_released, log_after, acknowledged, is_ready, DoesTake, DoesCommit, DoesFinish}
-use Rattle.run_facts.specs.Prelude.{AcksAre, IsKept, IsLogFar, log_flying}
-use Rattle.run_facts.proofs.Prelude.{ready_not_down, ready_by_table, some_of, HasRecord, ReadyCommit, known_batch, known_commit, known_finish, data_within, space_given, back_data, back_in_turn}
+use Rattle.store_steps.specs.Prelude.{Batch, State, chosen, without_context, batch_released, log_after, acknowledged, is_ready, units_taken, OpensBatch, OpensCheck, DoesCommit, DoesFinish, intent_of}
+use Rattle.flight_facts.specs.Prelude.{FlightsMatch, FitsRecord}
+use Rattle.flight_facts.proofs.Prelude.{IsFirst, chosen_first, all_at, rests_switch, rests_batch}
+use Rattle.run_facts.specs.Prelude.{AcksAre, IsKept}
+use Rattle.run_facts.proofs.Conditions.{pending_fits}
+use Rattle.run_facts.proofs.Prelude.{ready_not_down, some_of, take_none, HasRecord, ReadyCommit, known_batch, known_commit, known_finish, data_within, space_given, back_data, back_in_turn}
 use Rattle.kv_worker.specs.Batches.{TakesOne, CanCommit, flushed_batch}
 use Rattle.store_image.specs.Prelude.{IsDataUnit}
 use Rattle.store_kernel.specs.declared.batch.OpenBatch.{OpenBatch}
 use Rattle.store_kernel.specs.Seen.{contexts_of, batch_of, is_sealed, IsStageOf}
+use Rattle.store_kernel.proofs.Sending.{table_of}
 use Rattle.store_kernel.specs.Units.{CanBeGiven}
+use Rattle.store_kernel.specs.Steps.{NextFits, NextIsTooLong}
 use Rattle.store_steps.specs.declared.step.Step.TheVariants as step
 
 -- ---- a batch of one
@@ -35,31 +41,61 @@ one_released b x one =
 -- where a batch is taken, one can be
 pub one_is_chosen : (s : State) (d : Disk) → is_ready step.Take d.depth s ≡ true → chosen s.pending ≡ None → ⊥
 one_is_chosen s d ready none =
-    let table = ready_by_table s d.depth step.Take (ready_not_down s d.depth step.Take refl ready) ready in
-    let found = some_of (chosen s.pending) (and_parts (is_none s.batch) (is_some (chosen s.pending)) table).1 in
+    let table = table_of s d.depth step.Take refl ready in
+    let found = some_of (chosen s.pending) (and_parts (is_none s.batch && is_none s.switching) (is_some (chosen s.pending)) table).1 in
     let both : None ≡ Some found.0 = sym none ∙ found.1 in
     cc
 
--- and no record is begun
-pub none_begun : (s : State) (d : Disk) → IsKept s d → is_ready step.Take d.depth s ≡ true → false ≡ is_some s.log.begun
+-- nothing is under way for the log there: neither a record nor a checkpoint is begun
+pub record RestsLog (s : State) : Type 0 where
+  pub begun : s.log.begun ≡ None
+  pub check : s.log.check ≡ None
+
+pub none_begun : (s : State) (d : Disk) → IsKept s d → is_ready step.Take d.depth s ≡ true → RestsLog s
 none_begun s d kept ready =
     let up : s.down ≡ None = ready_not_down s d.depth step.Take refl ready in
-    let table = ready_by_table s d.depth step.Take up ready in
-    of_batch s.batch (and_parts (is_none s.batch) (is_some (chosen s.pending)) table).0 (kept.up up).flights.log
-  where
-    of_batch : (o : Option Batch) → is_none o ≡ true → IsLogFar s.log.number o s.log.begun (log_flying s.flying) → false ≡ is_some s.log.begun
-    of_batch None none far = sym (ap is_some far.0)
-    of_batch (Some b) none far = cc
+    let idle = take_none s d.depth (table_of s d.depth step.Take refl ready) in
+    let flights : FlightsMatch s d.flights = (kept.up up).flights in
+    record { begun = (rests_batch s d.flights flights idle.0).0; check = (rests_switch s d.flights flights idle.1).0 }
 
-pub take_does : (s : State) (d : Disk) (xs batch : List Context) (x : Context) → TakesOne s.pending xs batch → batch ≡ x ∷ []
-    → DoesTake s d (record s {
+-- the context that comes next needs as many units as its record takes
+chosen_needs : (s : State) (d : Disk) → IsKept s d → is_ready step.Take d.depth s ≡ true → (x : Context) → chosen s.pending ≡ Some x
+    → units_taken s x ≡ x.need
+chosen_needs s d kept ready x is =
+    let up : s.down ≡ None = ready_not_down s d.depth step.Take refl ready in
+    let first : IsFirst [] x s.pending = chosen_first [] s.pending x is in
+    (all_at (λ y. FitsRecord (intent_of y)) first.front x first.back s.pending first.is (pending_fits s (kept.up up).room)).need s.log.number
+
+-- so they tell whether its record fits behind the tail
+pub need_fits : (s : State) (d : Disk) (x : Context) → IsKept s d → is_ready step.Take d.depth s ≡ true → chosen s.pending ≡ Some x
+    → x.need ≤ s.log.sup.half - s.log.tail → NextFits s
+need_fits s d x kept ready is le =
+    subst (λ (o : Option Context). IfSome o (λ y. s.log.tail + units_taken s y ≤ s.log.sup.half)) (sym is)
+    (fits s.log.tail (units_taken s x) x.need s.log.sup.half (chosen_needs s d kept ready x is) le
+    (kept.up (ready_not_down s d.depth step.Take refl ready)).room.tail)
+  where
+    fits : (tail units need half : ℕ) → units ≡ need → need ≤ half - tail → tail ≤ half → tail + units ≤ half
+    fits tail units need half is le within = omega (arith, is, le, within)
+
+pub need_too_long : (s : State) (d : Disk) (x : Context) → IsKept s d → is_ready step.Take d.depth s ≡ true → chosen s.pending ≡ Some x
+    → s.log.sup.half - s.log.tail < x.need → NextIsTooLong s
+need_too_long s d x kept ready is lt =
+    subst (λ (o : Option Context). IfSome o (λ y. s.log.sup.half < s.log.tail + units_taken s y)) (sym is)
+    (long s.log.tail (units_taken s x) x.need s.log.sup.half (chosen_needs s d kept ready x is) lt)
+  where
+    long : (tail units need half : ℕ) → units ≡ need → half - tail < need → half < tail + units
+    long tail units need half is lt = omega (arith, is, lt)
+
+pub take_does : (s : State) (d : Disk) (xs batch : List Context) (x : Context) → NextFits s → TakesOne s.pending xs batch → batch ≡ x ∷ []
+    → OpensBatch s d (record s {
       pending = xs;
       batch = Some (record { contexts = batch; first = flush.NotSent; second = flush.NotSent });
       book = record s.book { commits = s.book.commits ++ record { place = x.place; acked_at = None } ∷ [] };
     }) d
-take_does s d xs batch x takes is = record {
+take_does s d xs batch x fits takes is = record {
   context = takes.context;
   is_chosen = takes.is_chosen;
+  fits = subst (λ (o : Option Context). IfSome o (λ y. s.log.tail + units_taken s y ≤ s.log.sup.half)) takes.is_chosen fits;
   same = refl;
   after =
       ap (λ (l : List Context). after_with l batch x.place) takes.left
@@ -77,6 +113,26 @@ take_does s d xs batch x takes is = record {
     first_place : List Context → ℕ
     first_place [] = 0
     first_place (y ∷ ys) = y.place
+
+-- or a checkpoint is opened
+pub open_does : (s : State) (d : Disk) (m : meta.Meta) → IsKept s d → is_ready step.Take d.depth s ≡ true → NextIsTooLong s → m ≡ with_check s.log
+    → OpensCheck s d (record s {
+      log = m;
+      switching = Some (record { flush = flush.NotSent; slot = flush.NotSent; slot_flush = flush.NotSent });
+    }) d
+open_does s d m kept ready long made =
+    let table = table_of s d.depth step.Take refl ready in
+    let found = some_of (chosen s.pending) (and_parts (is_none s.batch && is_none s.switching) (is_some (chosen s.pending)) table).1 in
+    record {
+      context = found.0;
+      is_chosen = found.1;
+      too_long = subst (λ (o : Option Context). IfSome o (λ y. s.log.sup.half < s.log.tail + units_taken s y)) found.1 long;
+      same = refl;
+      after = ap (λ (l : meta.Meta). let later : State = record s {
+        log = l;
+        switching = Some (record { flush = flush.NotSent; slot = flush.NotSent; slot_flush = flush.NotSent });
+      } in later) made;
+    }
 
 -- ---- Commit
 

@@ -6,18 +6,19 @@ use Rattle.std.proofs.lemmas.Option.{same_Some}
 use Rattle.block_device.specs.Prelude.{Disk, Reaped}
 use Rattle.block_device.specs.declared.device.Ticket.{Ticket}
 use Rattle.meta_store.specs.Store as meta
+use Rattle.meta_store.specs.Checks.{IsCheckOut}
 use Rattle.store_steps.specs.declared.context.Context.{Context}
 use Rattle.store_steps.specs.declared.flight.FlushState.TheVariants as flush
 use Rattle.store_steps.specs.declared.flight.Flying.{Flying}
 use Rattle.store_steps.specs.declared.flight.Job.{Job}
 use Rattle.store_steps.specs.declared.flight.Job.TheVariants as job
-use Rattle.store_steps.specs.Prelude.{Batch, State, after_done, after_good, first_flushed, second_flushed, written_more, down_by, flying_of, landed, Takes}
+use Rattle.store_steps.specs.Prelude.{Batch, State, after_done, after_good, first_flushed, second_flushed, down_by, flying_of, landed, Takes}
 use Rattle.std.specs.List.{AllByRecursion}
 use Rattle.run_facts.specs.Prelude.{IsKept}
 use Rattle.flight_facts.proofs.Prelude.{StandsIn, others_of, landed_flight, reaped_good, IsLeftOut, left_out, IsOf, found_tells}
 use Rattle.store_kernel.specs.declared.batch.OpenBatch.{OpenBatch}
 use Rattle.store_kernel.specs.Seen.{batch_of}
-use Rattle.store_kernel.specs.Ends.{with_first, with_second, contexts_after, batch_after, meta_after}
+use Rattle.store_kernel.specs.Ends.{with_first, with_second, contexts_after, batch_after, switching_after, meta_after}
 use Rattle.waiting_contexts.specs.Places.{context_at}
 use Rattle.unit_fields.specs.Prelude.{Ascends}
 use Rattle.std.proofs.lemmas.Bool.{eq-eqb, ne_eqb}
@@ -93,9 +94,8 @@ ended_for s d d' t ok j kept ended is =
     record { out = out; its_job = same_Some out.flight.job j (sym (ap (option_map (λ (f : Flying). f.job)) out.found) ∙ is) }
 
 -- what it tells
-tells : (s : State) (d : Disk) (t : Ticket) (j : Job) → IsKept s d → s.down ≡ None → EndedFor s t j → IsOf s.pending s.batch s.log.begun t.place j
-tells s d t j kept down ended =
-    subst (IsOf s.pending s.batch s.log.begun t.place) ended.its_job (found_tells s d.flights t ended.out (kept.up down).flights)
+tells : (s : State) (d : Disk) (t : Ticket) (j : Job) → IsKept s d → s.down ≡ None → EndedFor s t j → IsOf s t.place j
+tells s d t j kept down ended = subst (IsOf s t.place) ended.its_job (found_tells s d.flights t ended.out (kept.up down).flights)
 
 -- of several contexts whose places ascend the one at a place is found
 found_there : (P : Context → Type 0) (place : ℕ) (front : List Context) (x : Context) (back : List Context)
@@ -121,26 +121,33 @@ can_count_done s d t j kept down ended place count is =
     (found_there (λ x. x.done + count ≤ x.given) place at.front at.item at.back
     (subst (λ (xs : List Context). Ascends (map (λ (y : Context). y.place) xs)) at.is (kept.up down).flights.places.ascend) at.holds.0 at.holds.1)
 
--- a piece of a record that was in flight is of one that is being written
-pub piece_out : (s : State) (d : Disk) (m : meta.Meta) (t : Ticket) (j : Job) → IsKept s d → s.down ≡ None → s.log ≡ m → EndedFor s t j → j ≡ job.Record
-    → meta.IsPieceOut m
-piece_out s d m t j kept down log ended is =
+-- what is found holds of what there is
+out_of : {A : Type 0} (P : A → Type 0) (o : Option A) (x : A) → o ≡ Some x → P x → MatchOption o ⊥ P
+out_of {A} P o x is holds = subst (λ (p : Option A). MatchOption p ⊥ P) (sym is) holds
+
+-- a piece of a record that was in flight is of one that is being written, and so is a piece of a checkpoint
+pub piece_out : (s : State) (d : Disk) (t : Ticket) (j : Job) → IsKept s d → s.down ≡ None → EndedFor s t j → j ≡ job.Record → meta.IsPieceOut s.log
+piece_out s d t j kept down ended is =
     let of = tells s d t job.Record kept down (subst (EndedFor s t) is ended) in
-    subst (λ (l : meta.Meta). meta.IsPieceOut l) log
-    (subst (λ (o : Option meta.Begun). MatchOption o ⊥ (λ (r : meta.Begun). r.written < r.given)) (sym of.1) of.2)
+    out_of (λ (r : meta.Begun). r.written < r.given) s.log.begun of.0 of.1 of.2
+
+pub check_out : (s : State) (d : Disk) (t : Ticket) (j : Job) → IsKept s d → s.down ≡ None → EndedFor s t j → j ≡ job.Check → IsCheckOut s.log
+check_out s d t j kept down ended is =
+    let of = tells s d t job.Check kept down (subst (EndedFor s t) is ended) in
+    out_of (λ (c : meta.Checking). c.written < c.given) s.log.check of.0 of.1 of.2
 
 -- ---- what a good end does, job by job
 
--- the state with these parts
-abbrev with_parts : State → List Flying → meta.Meta → List Context → Option Batch → State
-with_parts s flying l p b = record s { log = l; pending = p; batch = b; flying = flying; events = s.events + 1 }
-
-same_parts : (s : State) (flying : List Flying) (l l' : meta.Meta) (p p' : List Context) (b b' : Option Batch) → l ≡ l' → p ≡ p' → b ≡ b'
-    → with_parts s flying l p b ≡ with_parts s flying l' p' b'
-same_parts s flying l l' p p' b b' one two three =
-    ap (λ (x : meta.Meta). with_parts s flying x p b) one
-    ∙ ap (λ (x : List Context). with_parts s flying l' x b) two
-    ∙ ap (λ (x : Option Batch). with_parts s flying l' p' x) three
+-- the state once the end of a submission for this job was counted, with this batch
+abbrev counted : State → List Flying → Job → Option Batch → State
+counted s flying j batch = record s {
+  log = meta_after j s.log;
+  pending = contexts_after j s.pending;
+  batch = batch;
+  switching = switching_after j s.switching;
+  flying = flying;
+  events = s.events + 1;
+}
 
 first_of : (b : Option OpenBatch) → option_map batch_of (option_map (with_first flush.Flushed) b) ≡ option_map first_flushed (option_map batch_of b)
 first_of None = refl
@@ -150,36 +157,33 @@ second_of : (b : Option OpenBatch) → option_map batch_of (option_map (with_sec
 second_of None = refl
 second_of (Some b) = refl
 
-done_is : (s : State) (m : meta.Meta) (b : Option OpenBatch) (t : Ticket) (j : Job) → s.log ≡ m → s.batch ≡ option_map batch_of b
-    → with_parts s (others_of t s.flying) ((meta_after j m)) (contexts_after j s.pending) (option_map batch_of (batch_after j b))
-    ≡ after_done j (landed t s)
-done_is s m b t (job.Data place count) log batch = same_parts s (others_of t s.flying) m s.log _ _ _ s.batch (sym log) refl (sym batch)
-done_is s m b t job.DataFlush log batch =
-    same_parts s (others_of t s.flying) m s.log _ s.pending _ _ (sym log) refl (first_of b ∙ ap (option_map first_flushed) (sym batch))
-done_is s m b t job.Record log batch =
-    same_parts s (others_of t s.flying) ((meta.with_written m)) _ _ s.pending _ s.batch
-    (ap (λ (l : meta.Meta). let k : meta.Meta = record l { begun = option_map written_more l.begun } in k) (sym log)) refl (sym batch)
-done_is s m b t job.RecordFlush log batch =
-    same_parts s (others_of t s.flying) m s.log _ s.pending _ _ (sym log) refl (second_of b ∙ ap (option_map second_flushed) (sym batch))
+done_is : (s : State) (b : Option OpenBatch) (t : Ticket) (j : Job) → s.batch ≡ option_map batch_of b
+    → counted s (others_of t s.flying) j (option_map batch_of (batch_after j b)) ≡ after_done j (landed t s)
+done_is s b t job.DataFlush batch =
+    ap (counted s (others_of t s.flying) job.DataFlush) (first_of b ∙ ap (option_map first_flushed) (sym batch))
+done_is s b t job.RecordFlush batch =
+    ap (counted s (others_of t s.flying) job.RecordFlush) (second_of b ∙ ap (option_map second_flushed) (sym batch))
+done_is s b t other batch = ap (counted s (others_of t s.flying) other) (sym batch)
 
-pub good_takes : (s : State) (d d' : Disk) (t : Ticket) (j : Job) (m : meta.Meta) (b : Option OpenBatch) (flying : List Flying)
-    → IsKept s d → s.down ≡ None → s.log ≡ m → s.batch ≡ option_map batch_of b → flying ≡ others_of t s.flying
+pub good_takes : (s : State) (d d' : Disk) (t : Ticket) (j : Job) (b : Option OpenBatch) (flying : List Flying)
+    → IsKept s d → s.down ≡ None → s.batch ≡ option_map batch_of b → flying ≡ others_of t s.flying
     → option_map (λ (f : Flying). f.job) (flying_of t s.flying) ≡ Some j → Reaped d t.place true d'
     → Takes s d true (record s {
-      log = (meta_after j m);
+      log = meta_after j s.log;
       pending = contexts_after j s.pending;
       batch = option_map batch_of (batch_after j b);
+      switching = switching_after j s.switching;
       flying = flying;
       events = s.events + 1;
     }) d'
-good_takes s d d' t j m b flying kept down log batch left is ended =
+good_takes s d d' t j b flying kept down batch left is ended =
     let out : EndedFor s t j = ended_for s d d' t true j kept ended is in
     record {
       ticket = t;
       ended = ended;
       after =
-          ap (λ (l : List Flying). with_parts s l ((meta_after j m)) (contexts_after j s.pending) (option_map batch_of (batch_after j b))) left
-          ∙ done_is s m b t j log batch
+          ap (λ (l : List Flying). counted s l j (option_map batch_of (batch_after j b))) left
+          ∙ done_is s b t j batch
           ∙ ap (λ (k : Job). after_done k (landed t s)) (sym out.its_job)
           ∙ sym (reaped_good s t out.out.flight down out.out.found);
     }

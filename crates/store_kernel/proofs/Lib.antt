@@ -1,6 +1,7 @@
 pub mod SpaceCalls
 pub mod Admitting
 pub mod Sending
+pub mod HalfSteps
 pub mod Batches
 pub mod Ending
 pub mod Opening

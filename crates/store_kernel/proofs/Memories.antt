@@ -1,8 +1,7 @@
 -- What is in memory, step by step.
-use Rattle.std.proofs.Common.{◌≡◌, ℕ, true, Bool, cond, List, [], ◌∷◌, Option, Some, None, is_some, is_none, refl, sym, ap, ◌∙◌, append-nil}
+use Rattle.std.proofs.Common.{◌≡◌, ℕ, true, Bool, cond, List, [], ◌∷◌, Option, Some, None, is_some, refl, sym, ap, ◌∙◌, append-nil}
 use Rattle.std.proofs.Math.Path.{fun_ext}
 use Rattle.std.specs.Option.{option_or}
-use Rattle.std.proofs.lemmas.Bool.{and_parts}
 use Rattle.block_device.specs.Prelude.{Disk}
 use Rattle.object_model.specs.Prelude.{Change}
 use Rattle.plan_rows.specs.declared.plan.FreshUnit.{FreshUnit}
@@ -10,9 +9,9 @@ use Rattle.plan_rows.specs.declared.plan.Plan.{Plan}
 use Rattle.std.proofs.lemmas.Option.{same_Some}
 use Rattle.store_steps.specs.declared.context.Context.{Context}
 use Rattle.store_steps.specs.declared.step.Step.TheVariants as step
-use Rattle.store_steps.specs.Prelude.{Batch, State, chosen, committed_batch, bytes_in, all_fresh, memory_of, is_ready, DoesData, Takes, DoesTake, DoesFlush, DoesSeal, DoesRecord, DoesSync, DoesCommit, DoesFinish, accepted_with}
+use Rattle.store_steps.specs.Prelude.{Batch, State, committed_batch, bytes_in, all_fresh, memory_of, is_ready, DoesData, Takes, OpensBatch, DoesFlush, DoesSeal, DoesRecord, DoesSync, DoesCommit, DoesFinish, accepted_with}
 use Rattle.run_facts.specs.Prelude.{IsKept}
-use Rattle.run_facts.proofs.Prelude.{ready_not_down, ready_by_table, memory_given, memory_reaped, memory_taken, memory_batch, memory_committed, memory_accepted}
+use Rattle.run_facts.proofs.Prelude.{ready_not_down, ready_by_table, take_none, memory_given, memory_reaped, memory_taken, memory_batch, memory_committed, memory_accepted}
 
 -- ---- steps that leave it
 
@@ -22,16 +21,10 @@ data_memory s s' d d' does = ap memory_of does.after ∙ memory_given _ _ does.t
 pub end_memory : (s s' : State) (d d' : Disk) (ok : Bool) → Takes s d ok s' d' → memory_of s' ≡ memory_of s
 end_memory s s' d d' ok takes = ap memory_of takes.after ∙ memory_reaped takes.ticket ok s
 
-pub take_memory : (s s' : State) (d d' : Disk) → IsKept s d → is_ready step.Take d.depth s ≡ true → DoesTake s d s' d' → memory_of s' ≡ memory_of s
+pub take_memory : (s s' : State) (d d' : Disk) → IsKept s d → is_ready step.Take d.depth s ≡ true → OpensBatch s d s' d' → memory_of s' ≡ memory_of s
 take_memory s s' d d' kept ready does =
     let up : s.down ≡ None = ready_not_down s d.depth step.Take refl ready in
-    let table = ready_by_table s d.depth step.Take up ready in
-    ap memory_of does.after
-    ∙ memory_taken s d kept up does.context (is_none_of s.batch (and_parts (is_none s.batch) (is_some (chosen s.pending)) table).0) does.is_chosen
-  where
-    is_none_of : (o : Option Batch) → is_none o ≡ true → o ≡ None
-    is_none_of None none = refl
-    is_none_of (Some b) none = cc
+    ap memory_of does.after ∙ memory_taken s d kept up does.context (take_none s d.depth (ready_by_table s d.depth step.Take up ready)).0 does.is_chosen
 
 pub flush_memory : (s s' : State) (d d' : Disk) → DoesFlush s d s' d' → memory_of s' ≡ memory_of s
 flush_memory s s' d d' does = ap memory_of does.after ∙ sym (memory_batch s does.batch does.begun)

@@ -1,5 +1,5 @@
 -- What the steps that submit ask of the device, and what they do to the state.
-use Rattle.std.proofs.Common.{◌≡◌, is_none, is_some, ℕ, ◌+◌, ◌*◌, ◌%◌, ◌<◌, ◌≤◌, nat_lt, Bool, true, false, List, [], ◌∷◌, ◌++◌, length, map, Option, Some, None, refl, sym, ap, subst, ◌∙◌, arith}
+use Rattle.std.proofs.Common.{◌≡◌, ◌&&◌, is_none, is_some, ℕ, ◌+◌, ◌*◌, ◌%◌, ◌<◌, ◌≤◌, nat_lt, Bool, true, false, List, [], ◌∷◌, ◌++◌, length, map, Option, Some, None, refl, sym, ap, subst, ◌∙◌, arith}
 use Rattle.std.specs.Option.{option_map, option_map_or}
 use Rattle.std.specs.List.{AllByRecursion}
 use Rattle.std.proofs.lemmas.Bool.{and_parts}
@@ -12,10 +12,14 @@ use Rattle.plan_rows.specs.declared.plan.FreshUnit.{FreshUnit}
 use Rattle.store_steps.specs.declared.context.Context.{Context}
 use Rattle.store_steps.specs.declared.flight.FlushState.TheVariants as flush
 use Rattle.store_steps.specs.declared.flight.Job.TheVariants as job
+use Rattle.store_steps.specs.declared.step.Step.{Step}
 use Rattle.store_steps.specs.declared.step.Step.TheVariants.{Data, Flush, Seal, Record, Sync}
-use Rattle.store_steps.specs.Prelude.{Batch, State, Unsent, unsent_units, run_bytes, next_unsent, with_context, given_more, is_ready, DoesData, DoesFlush, DoesSeal, DoesRecord, DoesSync, piece_unit}
+use Rattle.store_steps.specs.Prelude.{Batch, State, Unsent, unsent_units, run_bytes, next_unsent, with_context, given_more, is_ready_down, is_ready_up, is_ready, DoesData, DoesFlush, DoesSeal, DoesRecord, DoesSync, piece_unit}
 use Rattle.store_steps.specs.Steps as steps
+use Rattle.flight_facts.specs.Prelude.{FlightsMatch}
+use Rattle.flight_facts.proofs.Prelude.{none_is, no_switch, rests_switch}
 use Rattle.run_facts.specs.Prelude.{IsKept}
+use Rattle.run_facts.proofs.Conditions.{room_at_device}
 use Rattle.run_facts.proofs.Prelude.{HasRecord, number_low, known_data_room, known_record_room, known_seal, next_data_untouched, data_inside, few_units, whole_units, next_piece_untouched, ready_not_down, ready_by_table}
 use Rattle.store_kernel.specs.declared.batch.OpenBatch.{OpenBatch}
 use Rattle.txn_states.specs.declared.next_write.NextWrite.{NextWrite}
@@ -33,6 +37,14 @@ pub record CanWrite (d : Disk) (at size : ℕ) : Type 0 where
   pub whole : size % 4096 ≡ 0
   pub inside : 4096 * at + size ≤ 4096 * d.units
   pub free : IsNotInFlight d at size
+
+-- a step that isn't ready while the kernel is down is ready by the table
+pub table_of : (s : State) (depth : ℕ) (step : Step) → is_ready_down step s ≡ false → is_ready step depth s ≡ true → is_ready_up step depth s ≡ true
+table_of s depth step never ready = ready_by_table s depth step (ready_not_down s depth step never ready) ready
+
+-- the device takes one more submission where the table says so
+pub room_where : (s : State) (d : Disk) (other : Bool) → IsKept s d → (other && nat_lt (length s.flying) d.depth) ≡ true → length d.flights < d.depth
+room_where s d other kept table = room_at_device s d kept.always (and_parts other (nat_lt (length s.flying) d.depth) table).1
 
 -- ---- units in order
 
@@ -125,7 +137,7 @@ pub flush_does : (s : State) (d d' : Disk) (b : Option OpenBatch) (t : Ticket) �
       events = s.events + 1;
     }) d'
 flush_does s d d' None t ready batch submitted =
-    let table = ready_by_table s d.depth Flush (ready_not_down s d.depth Flush refl ready) ready in
+    let table = table_of s d.depth Flush refl ready in
     absurd (no_batch _ s.batch batch (and_parts _ (nat_lt (length s.flying) d.depth) table).0)
 flush_does s d d' (Some b) t ready batch submitted =
     record { ticket = t; batch = batch_of b; begun = batch; submitted = submitted; after = refl }
@@ -138,7 +150,7 @@ pub sync_does : (s : State) (d d' : Disk) (b : Option OpenBatch) (t : Ticket) �
       events = s.events + 1;
     }) d'
 sync_does s d d' None t ready batch submitted =
-    let table = ready_by_table s d.depth Sync (ready_not_down s d.depth Sync refl ready) ready in
+    let table = table_of s d.depth Sync refl ready in
     absurd (no_batch _ s.batch batch (and_parts _ _ (and_parts _ (nat_lt (length s.flying) d.depth) table).0).0)
 sync_does s d d' (Some b) t ready batch submitted =
     record { ticket = t; batch = batch_of b; begun = batch; submitted = submitted; after = refl }
@@ -149,16 +161,15 @@ sync_does s d d' (Some b) t ready batch submitted =
 pub can_seal : (s : State) (d : Disk) (m : meta.Meta) (b : OpenBatch) → IsKept s d → is_ready Seal d.depth s ≡ true → s.batch ≡ Some (batch_of b)
     → s.log ≡ m → CanSeal (contexts_of b.stage) m
 can_seal s d m b kept ready batch log =
+    let up : s.down ≡ None = ready_not_down s d.depth Seal refl ready in
+    let flights : FlightsMatch s d.flights = (kept.up up).flights in
     let facts : HasRecord s (batch_of b) = known_seal s d (batch_of b) kept ready batch in
     subst (CanSeal (contexts_of b.stage)) log (record {
-      idle = is_idle s.log.begun (and_parts (is_some s.batch) (is_none s.log.begun) (ready_by_table s d.depth Seal (ready_not_down s d.depth Seal refl ready) ready)).1;
+      idle = none_is s.log.begun (and_parts (is_some s.batch) (is_none s.log.begun) (ready_by_table s d.depth Seal up ready)).1;
+      resting = (rests_switch s d.flights flights (no_switch s d.flights (batch_of b) flights batch)).0;
       sealable = record { number_below = number_low s d kept.always; body_below = facts.body; fit = facts.fit };
       fits = facts.room;
     })
-  where
-    is_idle : (o : Option meta.Begun) → is_none o ≡ true → o ≡ None
-    is_idle None none = refl
-    is_idle (Some r) none = cc
 
 pub seal_does : (s : State) (d : Disk) (m m' : meta.Meta) (b : OpenBatch) (xs : List Context) → s.batch ≡ Some (batch_of b) → s.log ≡ m
     → m' ≡ meta.with_begun m (ops_of (contexts_of b.stage)) → xs ≡ contexts_of b.stage

@@ -32,7 +32,7 @@ stage_given m b stage = stage_record _ m.begun b stage
 
 -- a submission for this job has ended well
 pub stage_ended : (j : Job) (m : meta.Meta) (b : Option OpenBatch) → IsStageOf m.begun b → IsStageOf (meta_after j m).begun (batch_after j b)
-stage_ended (job.Data place count) m b stage = stage
 stage_ended job.DataFlush m b stage = stage_first _ m.begun b stage
 stage_ended job.Record m b stage = stage_record _ m.begun b stage
 stage_ended job.RecordFlush m b stage = stage_second _ m.begun b stage
+stage_ended other m b stage = stage

@@ -6,8 +6,7 @@ use Rattle.object_model.specs.declared.command.Command.TheVariants as ask
 use Rattle.meta_log.specs.Prelude.{width_of}
 use Rattle.read_facts.specs.Prelude.{IsNotRefused}
 use Rattle.plan_rows.specs.declared.plan.Plan.{Plan}
-use Rattle.store_steps.specs.Prelude.{State, need_of, IsReadNow}
-use Rattle.meta_store.specs.Store.{room_of}
+use Rattle.store_steps.specs.Prelude.{State, need_of, room_of, IsReadNow}
 use Rattle.plan_drafts.specs.Prelude.{places_of, Plans}
 use Rattle.store_kernel.specs.declared.prepared.Prepared.{Prepared}
 

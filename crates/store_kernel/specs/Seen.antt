@@ -11,6 +11,7 @@ use Rattle.meta_store.specs.Store as meta
 use Rattle.unit_allocator.specs.Prelude.{Space}
 use Rattle.store_steps.specs.declared.context.Context.{Context}
 use Rattle.store_steps.specs.declared.flight.Flying.{Flying}
+use Rattle.store_steps.specs.declared.flight.Switching.{Switching}
 use Rattle.store_steps.specs.Prelude.{Batch, State, Found}
 use Rattle.store_kernel.specs.declared.batch.OpenBatch.{OpenBatch}
 use Rattle.store_kernel.specs.declared.batch.Stage.{Stage}
@@ -46,13 +47,14 @@ pub record IsUnused (m : meta.Meta) : Type 0 where
   pub none_checked : m.check ≡ None
 
 -- the state, of the kernel's fields
-abbrev pub state_of : meta.Meta → Rows → List Context → Option OpenBatch → List Flying → Option Ticket → ℕ → Space
+abbrev pub state_of : meta.Meta → Rows → List Context → Option OpenBatch → Option Switching → List Flying → Option Ticket → ℕ → Space
     → List Entry → List Commit → ℕ → State
-state_of m submitted pending batch flying down events space entries commits acked = record {
+state_of m submitted pending batch switching flying down events space entries commits acked = record {
   log = m;
   submitted = submitted;
   pending = pending;
   batch = option_map batch_of batch;
+  switching = switching;
   flying = flying;
   down = down;
   events = events;

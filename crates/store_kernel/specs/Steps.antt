@@ -1,6 +1,8 @@
--- Which steps may fail for want of memory.
+-- Which steps may fail for want of memory, and what a batch needs of the log.
+use Rattle.std.specs.Prelude.{◌+◌, ◌<◌, ◌≤◌, IfSome}
 use Rattle.store_steps.specs.declared.step.Step.{Step}
-use Rattle.store_steps.specs.declared.step.Step.TheVariants.{Data, Reap, Take, Flush, Seal, Record, Sync, Commit, Finish}
+use Rattle.store_steps.specs.declared.step.Step.TheVariants.{Data, Reap, Take, Flush, Seal, Record, Sync, Commit, Finish, CheckWrite, CheckFlush, SlotWrite, SlotFlush, Switch}
+use Rattle.store_steps.specs.Prelude.{State, chosen, units_taken}
 
 -- a step that takes memory; the others do what they do whatever memory there is
 abbrev pub TakesMemory : Step → Type 0
@@ -13,3 +15,15 @@ TakesMemory Record = Unit {0}
 TakesMemory Sync = Unit {0}
 TakesMemory Commit = ⊥
 TakesMemory Finish = ⊥
+TakesMemory CheckWrite = Unit {0}
+TakesMemory CheckFlush = Unit {0}
+TakesMemory SlotWrite = Unit {0}
+TakesMemory SlotFlush = Unit {0}
+TakesMemory Switch = ⊥
+
+-- the record of the context that comes next fits behind the tail, or it is too long for what the half has left
+abbrev pub NextFits : State → Type 0
+NextFits s = IfSome (chosen s.pending) (λ x. s.log.tail + units_taken s x ≤ s.log.sup.half)
+
+abbrev pub NextIsTooLong : State → Type 0
+NextIsTooLong s = IfSome (chosen s.pending) (λ x. s.log.sup.half < s.log.tail + units_taken s x)

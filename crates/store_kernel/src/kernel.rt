@@ -7,7 +7,7 @@
 //! The kernel's type keeps prefix durability as a statement over every start, and no field has the objects of the start or the history: a
 //! told log, the kernel's count of events and the objects that an image stands for determine them. It says nothing of a device that
 //! doesn't tell.
-ghost use Rattle.std.specs.Prelude.{◌≡◌, ◌≢◌, ℕ, ◌≤◌, ◌<◌, ◌^◌, nat_lt, [], true, false, None, length, OnOk, OnErr, IfOk, IfErr, IsErrOf, MatchResult};
+ghost use Rattle.std.specs.Prelude.{◌≡◌, ◌≢◌, ◌&&◌, is_none, ℕ, ◌≤◌, ◌<◌, ◌^◌, nat_lt, [], true, false, None, length, OnOk, OnErr, IfOk, IfErr, IsErrOf, MatchResult};
 ghost use Rattle.std.specs.List.{list_any};
 ghost use Rattle.block_device.specs.Prelude.{Rose};
 ghost use Rattle.store_steps.specs.Prelude.{opened, is_ready, is_ready_up, all_steps, is_drained, is_not_sent, batch_is, applied_count, Takes, Does, free_count};
@@ -21,6 +21,7 @@ ghost use Rattle.store_kernel.specs.Steps.{TakesMemory};
 mod reading;
 mod steps;
 mod submitting;
+mod switching;
 mod walking;
 
 use crate::batch::{OpenBatch, flushed, not_sent};
@@ -32,7 +33,7 @@ use meta_store::MetaStore;
 use object_model::{Book, Commit, Entry};
 use std::alloc::Global;
 use std::marker::Model;
-use store_steps::{ALL_STEPS, Flying, Step};
+use store_steps::{ALL_STEPS, Flying, Step, Switching};
 use unit_allocator::Allocator;
 use waiting_contexts::Contexts;
 use write_buffers::WriteBuffers;
@@ -49,6 +50,8 @@ pub struct Kernel<D: Device> {
     // accepted, and in no batch
     contexts: Contexts,
     batch: Option<OpenBatch>,
+    // there while a checkpoint is open: how far its switch of halves is
+    switching: Option<Switching>,
     // the bytes of the units that these took, for reads
     buffers: WriteBuffers,
     // in the order of the device's flights
@@ -76,11 +79,11 @@ impl<D: Device> Model for Kernel<D> {
 
     ghost view = { λ k. record {
       device = k.device;
-      state = state_of k.meta k.submitted.rows k.contexts k.batch k.flying.items k.down k.events k.space k.entries.items k.commits.items k.acked;
+      state = state_of k.meta k.submitted.rows k.contexts k.batch k.switching k.flying.items k.down k.events k.space k.entries.items k.commits.items k.acked;
     } };
 
     ghost invariant = { λ k. KnownOfKernel k.buffers k.batch
-        (state_of k.meta k.submitted.rows k.contexts k.batch k.flying.items k.down k.events k.space k.entries.items k.commits.items k.acked)
+        (state_of k.meta k.submitted.rows k.contexts k.batch k.switching k.flying.items k.down k.events k.space k.entries.items k.commits.items k.acked)
         (D.disk k.device) };
 }
 
@@ -109,6 +112,7 @@ impl<D: Device> Kernel<D> {
             submitted,
             contexts: Contexts::new(alloc),
             batch: None,
+            switching: None,
             buffers: WriteBuffers::new(alloc),
             flying: Vec::new(alloc),
             down: None,
@@ -133,6 +137,7 @@ impl<D: Device> Kernel<D> {
             submitted,
             contexts,
             batch,
+            switching: _,
             buffers,
             flying,
             down: _,
@@ -213,13 +218,20 @@ impl<D: Device> Kernel<D> {
         match step {
             Step::Data => self.contexts.has_unsent() && self.has_room(),
             Step::Reap => !self.flying.is_empty(),
-            Step::Take => self.batch.is_none() && self.contexts.has_done(),
+            Step::Take => self.is_free() && self.contexts.has_done(),
             Step::Flush => self.first_not_sent() && self.has_room(),
             Step::Seal => self.batch.is_some() && self.meta.is_idle(),
             Step::Record => self.first_flushed() && self.meta.has_piece_left() && self.has_room(),
             Step::Sync => self.second_not_sent() && self.meta.is_written() && self.has_room(),
             Step::Commit => self.second_flushed(),
             Step::Finish => (self.acked as usize) < self.applied(),
+            Step::CheckWrite => self.meta.has_check_left() && self.has_room(),
+            Step::CheckFlush => {
+                self.check_not_flushed() && self.meta.is_check_written() && self.has_room()
+            }
+            Step::SlotWrite => self.slot_not_sent() && self.has_room(),
+            Step::SlotFlush => self.slot_not_flushed() && self.has_room(),
+            Step::Switch => self.slot_flushed(),
         }
     }
 
@@ -245,6 +257,13 @@ impl<D: Device> Kernel<D> {
         ensures { result ≡ is_drained (D.disk self.now.device).depth self.now.state }
     {
         !self.any_ready()
+    }
+
+    // Whether neither a batch nor a switch of halves is under way.
+    fn is_free(&self) -> bool
+        ensures { result ≡ (is_none self.now.state.batch && is_none self.now.state.switching) }
+    {
+        self.batch.is_none() && self.switching.is_none()
     }
 
     fn first_not_sent(&self) -> bool
@@ -307,7 +326,7 @@ impl<D: Device> Kernel<D> {
         match step {
             Step::Data => self.send_data(alloc),
             Step::Reap => self.take_end(),
-            Step::Take => self.take_batch(),
+            Step::Take => self.take_next(alloc),
             Step::Flush => self.send_flush(),
             Step::Seal => self.seal(alloc),
             Step::Record => self.send_record(alloc),
@@ -318,6 +337,14 @@ impl<D: Device> Kernel<D> {
             }
             Step::Finish => {
                 self.finish();
+                Ok(())
+            }
+            Step::CheckWrite => self.send_check(alloc),
+            Step::CheckFlush => self.send_check_flush(),
+            Step::SlotWrite => self.send_slot(alloc),
+            Step::SlotFlush => self.send_slot_flush(),
+            Step::Switch => {
+                self.switch_halves();
                 Ok(())
             }
         }

@@ -4,14 +4,15 @@
 //!
 //! It stands in the place of the transaction state machine of Ceph's BlueStore (`_txc_state_proc` and the threads behind it).
 //! Any number of transactions are under way at a time: each waits for its own data writes, those of a collection keep their order, and one batch
-//! after the other goes to the log.
+//! after the other goes to the log. Where the record of the one that comes next is too long for what the half of the log has left, a checkpoint
+//! of the committed rows goes into the other half in place of a batch, and the halves change places.
 //!
 //! Proved: a transaction is accepted or refused as plain objects of the submitted rows' shape say, then NoSpace exactly where units don't
 //! suffice, then Csum at the first unit that is bad of those whose old bytes it keeps, then MetaFull exactly where room doesn't suffice,
 //! each with its numbers; so one that is accepted, or refused for want of room, has met no bad unit: old bytes that aren't in memory were
 //! read with the checksum that is kept; an accepted one takes the lowest free units, and its row operations are those of its plan; one
 //! that comes to a kernel that is down, or whose book is full, is turned away, and nothing changes. Data go to the device in maximal runs
-//! of consecutive units, ascending, of at most 64, and a record in pieces of at most 64, as many at a time as the device takes. Each step
+//! of consecutive units, ascending, of at most 64, and a record or a checkpoint in pieces of at most 64, as many at a time as the device takes. Each step
 //! is ready exactly as the table says, and does exactly what its row says, at the device and to the state; a step refused for memory
 //! leaves both as they were; a submission that ends badly makes the kernel down, by the first such ticket, and from then on it only takes
 //! ends. The kernel's type keeps what `IsKept` says: among others that the bitmap of the committed and of the submitted rows is exact but
@@ -35,6 +36,7 @@ mod prepared;
 mod refused;
 mod space;
 mod step_fail;
+mod switching;
 mod unanswered;
 
 pub use kernel::Kernel;

@@ -1,5 +1,5 @@
 -- What each step makes of the state: one function for each. What it does at the device is said in Steps.
-use Rattle.std.specs.Prelude.{ℕ, ◌+◌, ◌-◌, ◌==◌, not, Bool, true, false, List, [], ◌∷◌, ◌++◌, filter, find, Option, Some, None, is_some, if◌then◌else◌}
+use Rattle.std.specs.Prelude.{ℕ, ◌+◌, ◌-◌, ◌==◌, not, Bool, true, false, List, [], ◌∷◌, ◌++◌, length, filter, find, Option, Some, None, is_some, if◌then◌else◌}
 use Rattle.std.specs.Option.{option_map}
 use Rattle.block_device.specs.declared.device.Ticket.{Ticket}
 use Rattle.object_model.specs.declared.book.Commit.{Commit}
@@ -11,7 +11,9 @@ use Rattle.store_steps.specs.declared.flight.FlushState.TheVariants as flush
 use Rattle.store_steps.specs.declared.flight.Flying.{Flying}
 use Rattle.store_steps.specs.declared.flight.Job.{Job}
 use Rattle.store_steps.specs.declared.flight.Job.TheVariants as job
-use Rattle.meta_store.specs.Store.{Meta, Begun}
+use Rattle.meta_store.specs.Store.{Meta, Begun, Checking}
+use Rattle.meta_store.specs.Checks as checks
+use Rattle.store_steps.specs.declared.flight.Switching.{Switching}
 use Rattle.store_steps.specs.State.{Batch, State}
 use Rattle.store_steps.specs.Contexts.{with_context, without_context, given_more, done_more, batch_ops, batch_released, sum_needs}
 
@@ -39,6 +41,21 @@ record_sent r ticket s = let before : State = record s { log = record s.log { be
 abbrev pub sync_sent : Batch → Ticket → State → State
 sync_sent b ticket s = let before : State = record s { batch = Some (record b { second = flush.Sent ticket }) } in sent ticket job.RecordFlush before
 
+-- the next piece of the checkpoint was submitted
+abbrev pub check_sent : Checking → Ticket → State → State
+check_sent c ticket s = let before : State = record s { log = record s.log { check = Some (record c { given = c.given + 1 }) } } in sent ticket job.Check before
+
+-- the checkpoint's flush was, the next superblock, and the flush behind that
+abbrev pub check_flush_sent : Switching → Ticket → State → State
+check_flush_sent w ticket s = let before : State = record s { switching = Some (record w { flush = flush.Sent ticket }) } in sent ticket job.CheckFlush before
+
+abbrev pub slot_sent : Switching → Ticket → State → State
+slot_sent w ticket s = let before : State = record s { switching = Some (record w { slot = flush.Sent ticket }) } in sent ticket job.Slot before
+
+abbrev pub slot_flush_sent : Switching → Ticket → State → State
+slot_flush_sent w ticket s =
+    let before : State = record s { switching = Some (record w { slot_flush = flush.Sent ticket }) } in sent ticket job.SlotFlush before
+
 -- ---- their ends
 
 -- a flush of a batch has ended well
@@ -52,12 +69,30 @@ second_flushed b = record b { second = flush.Flushed }
 abbrev pub written_more : Begun → Begun
 written_more r = record r { written = r.written + 1 }
 
+-- one more piece of the checkpoint has ended well
+abbrev pub checked_more : Checking → Checking
+checked_more c = record c { written = c.written + 1 }
+
+-- and so have the checkpoint's flush, the next superblock, and the flush behind that
+abbrev pub check_flushed : Switching → Switching
+check_flushed w = record w { flush = flush.Flushed }
+
+abbrev pub slot_written : Switching → Switching
+slot_written w = record w { slot = flush.Flushed }
+
+abbrev pub slot_flushed : Switching → Switching
+slot_flushed w = record w { slot_flush = flush.Flushed }
+
 -- what the good end of a submission for this job is to the state
 abbrev pub after_done : Job → State → State
 after_done (job.Data place count) s = record s { pending = with_context place (done_more count) s.pending }
 after_done job.DataFlush s = record s { batch = option_map first_flushed s.batch }
 after_done job.Record s = record s { log = record s.log { begun = option_map written_more s.log.begun } }
 after_done job.RecordFlush s = record s { batch = option_map second_flushed s.batch }
+after_done job.Check s = record s { log = record s.log { check = option_map checked_more s.log.check } }
+after_done job.CheckFlush s = record s { switching = option_map check_flushed s.switching }
+after_done job.Slot s = record s { switching = option_map slot_written s.switching }
+after_done job.SlotFlush s = record s { switching = option_map slot_flushed s.switching }
 
 abbrev pub after_good : Option Flying → State → State
 after_good None s = s
@@ -95,6 +130,13 @@ taken_up x s = record s {
   book = record s.book { commits = s.book.commits ++ commit_of x ∷ [] };
 }
 
+-- a checkpoint of the committed rows is open
+abbrev pub check_begun : State → State
+check_begun s = record s {
+  log = record s.log { check = Some (record { given = 0; written = 0 }) };
+  switching = Some (record { flush = flush.NotSent; slot = flush.NotSent; slot_flush = flush.NotSent });
+}
+
 -- the batch's record is made
 abbrev pub sealed : Batch → State → State
 sealed b s = record s { log = record s.log { begun = Some (record { ops = batch_ops b; given = 0; written = 0 }) } }
@@ -112,6 +154,10 @@ log_after b m = record m {
 -- the batch is committed
 abbrev pub committed_batch : Batch → State → State
 committed_batch b s = record s { log = log_after b s.log; batch = None; space = given s.space (batch_released b) }
+
+-- The halves have changed places: the checkpoint's record, if there are rows, is the log, and what stood in the other half until now is stale.
+abbrev pub switched : State → State
+switched s = record s { log = checks.switched s.log; switching = None }
 
 -- the first of these commits that isn't acknowledged is acknowledged now
 abbrev pub acknowledged : ℕ → List Commit → List Commit

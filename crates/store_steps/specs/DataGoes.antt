@@ -3,6 +3,7 @@ use Rattle.std.specs.Prelude.{◌≡◌, ℕ, ◌+◌, List, [], ◌∷◌, ◌+
 use Rattle.std.specs.List.{AllByRecursion}
 use Rattle.block_device.specs.Prelude.{WritesUnit, Flight, IsUntouched}
 use Rattle.block_device.specs.declared.event.Event.{Event}
+use Rattle.meta_log.specs.Prelude.{next_super}
 use Rattle.log_facts.specs.Prelude.{not_sent, sent, flushed}
 use Rattle.plan_rows.specs.declared.plan.FreshUnit.{FreshUnit}
 use Rattle.store_steps.specs.Contexts.{Unsent, unsent_units}
@@ -30,7 +31,7 @@ pub record Gives (run : Unsent) (p q : DataPart) : Type 0 where
   pub batch : Spares (run_write run) p.fresh
 
 -- They stay, with no data write; a run is submitted; a batch is opened, whose units come first; its flush is submitted, while none of them is
--- in flight, and ends; it is committed, and its units are no longer among them.
+-- in flight, and ends; it is committed, and its units are no longer among them; or the halves change places, where the next record's number is this.
 pub data DataGoes (flights : List Flight) : Touch → DataPart → DataPart → Type 0 where
   same : {t : Touch} {p q : DataPart} → IsNoData t → q ≡ p → DataGoes flights t p q
   gives : {p q : DataPart} (ticket : ℕ) (run : Unsent) → Gives run p q → DataGoes flights (on_data ticket run) p q
@@ -41,3 +42,4 @@ pub data DataGoes (flights : List Flight) : Touch → DataPart → DataPart → 
   is_flushed : {p q : DataPart} (ticket : ℕ) → p.first ≡ sent ticket → q ≡ record p { first = flushed } → DataGoes flights (ends ticket) p q
   retires : {p q : DataPart} (rest : List FreshUnit) → p.first ≡ flushed → p.given ≡ p.fresh ++ rest
       → q ≡ record p { given = rest; fresh = []; first = not_sent } → DataGoes flights nothing p q
+  switches : {p q : DataPart} (number : ℕ) → q ≡ record p { sup = next_super p.sup number } → DataGoes flights nothing p q

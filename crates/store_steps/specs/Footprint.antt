@@ -6,10 +6,10 @@ use Rattle.object_model.specs.declared.command.Answer.{Answer}
 use Rattle.object_model.specs.declared.command.Command.{Command}
 use Rattle.switch_facts.specs.Prelude.{OtherGoes}
 use Rattle.store_steps.specs.declared.step.Step.{Step}
-use Rattle.store_steps.specs.declared.step.Step.TheVariants.{Take, Commit, Finish}
+use Rattle.store_steps.specs.declared.step.Step.TheVariants.{Take, Commit, Finish, Switch}
 use Rattle.store_steps.specs.State.{State}
 use Rattle.store_steps.specs.Ready.{is_ready}
-use Rattle.store_steps.specs.Steps.{DoesTake, DoesCommit, DoesFinish}
+use Rattle.store_steps.specs.Steps.{DoesTake, DoesCommit, DoesFinish, DoesSwitch}
 use Rattle.plan_drafts.specs.Prelude.{IsKnown}
 use Rattle.store_steps.specs.Submit.{Accepts, Refuses}
 use Rattle.store_steps.specs.Runs.{AnswersRead}
@@ -41,8 +41,8 @@ pub record Makes (one : Step) (What : Type 0) (s : State) (d : Disk) : Type 0 wh
   pub does : What
 
 -- By what call rows and book change. One more joins the rows where a transaction is accepted, with its entry; they change places where a batch is
--- opened, with its commits; the first ones are committed with the open batch, and commits are applied with them alone. All other entries are of
--- answers without a transaction.
+-- opened, with its commits; the first ones are committed with the open batch, and commits are applied with them alone; the halves change places. All
+-- other entries are of answers without a transaction.
 abbrev pub IsCaused : (s : State) (d : Disk) (s' : State) (d' : Disk) {p q : RowsPart} {events : ℕ} {t : Touch} {b c : BookPart}
     → RowsGo p q → BookGoes events t b c → Type 0
 IsCaused s d s' d' (rows.joins x joined) (book.enters e entered) = AcceptsOne s d s'
@@ -51,6 +51,8 @@ IsCaused s d s' d' (rows.reorders later complete reordered) (book.commits xs non
 IsCaused s d s' d' (rows.reorders later complete reordered) other = ⊥
 IsCaused s d s' d' (rows.applies number front back both fits applied) (book.applies count all counted) = Makes Commit (DoesCommit s d s' d') s d
 IsCaused s d s' d' (rows.applies number front back both fits applied) other = ⊥
+IsCaused s d s' d' (rows.switches number limits switched) (book.same kept) = Makes Switch (DoesSwitch s d s' d') s d
+IsCaused s d s' d' (rows.switches number limits switched) other = ⊥
 IsCaused s d s' d' (rows.same same) (book.enters e entered) = Replies s d s'
 IsCaused s d s' d' (rows.same same) (book.acknowledges acknowledged) = Makes Finish (DoesFinish s d s' d') s d
 IsCaused s d s' d' (rows.same same) (book.same kept) = Unit {0}

@@ -1,10 +1,10 @@
 -- What a call makes of the active half of the log.
-use Rattle.std.specs.Prelude.{◌≡◌, ℕ, ◌+◌, ◌-◌, ◌<◌, ◌≤◌, List, Some, None}
+use Rattle.std.specs.Prelude.{◌≡◌, ℕ, ◌+◌, ◌-◌, ◌<◌, ◌≤◌, List, length, Some, None}
 use Rattle.byte_maps.specs.Units.{units_from}
 use Rattle.block_device.specs.Prelude.{Flight, IsUntouched}
 use Rattle.meta_rows.specs.declared.row_op.RowOp.{RowOp}
 use Rattle.meta_rows.specs.Prelude.{rows_after}
-use Rattle.meta_log.specs.Prelude.{unit_count, record_units, active_unit}
+use Rattle.meta_log.specs.Prelude.{unit_count, record_units, active_unit, next_super, check_records, check_units}
 use Rattle.log_facts.specs.Prelude.{not_sent, sent, flushed, IsSpellable}
 use Rattle.store_steps.specs.Parts.{HalfPart}
 use Rattle.store_steps.specs.Touch.{Touch, nothing, ends, flushes, on_half, IsNoPiece}
@@ -31,7 +31,18 @@ moved_on ops p = record p {
   second = not_sent;
 }
 
--- It stays, with no write in it; a record begins, goes on to the device piece by piece, is flushed, and is committed.
+-- the other half is the active one: it has the rows as one record
+abbrev pub half_switched : HalfPart → HalfPart
+half_switched p = record p {
+  sup = next_super p.sup p.number;
+  tail = check_units p.number p.rows;
+  number = p.number + length (check_records p.rows);
+  begun = None;
+  from = 0;
+  second = not_sent;
+}
+
+-- It stays, with no write in it; a record begins, goes on to the device piece by piece, is flushed, and is committed; or the halves change places.
 pub data HalfGoes (flights : List Flight) : Touch → HalfPart → HalfPart → Type 0 where
   same : {t : Touch} {p q : HalfPart} → IsNoPiece t → q ≡ p → HalfGoes flights t p q
   begins : {p q : HalfPart} (ops : List RowOp) → p.begun ≡ None → IsSpellable p.number ops → p.tail + unit_count p.number ops ≤ p.sup.half
@@ -44,3 +55,4 @@ pub data HalfGoes (flights : List Flight) : Touch → HalfPart → HalfPart → 
       → HalfGoes flights (ends ticket) p q
   moves_on : {p q : HalfPart} (ops : List RowOp) → p.begun ≡ Some ops → p.from ≡ 0 → p.second ≡ flushed → q ≡ moved_on ops p
       → HalfGoes flights nothing p q
+  switches : {p q : HalfPart} → q ≡ half_switched p → HalfGoes flights nothing p q

@@ -23,6 +23,7 @@ opened f space events = record {
   submitted = f.rows;
   pending = [];
   batch = None;
+  switching = None;
   flying = [];
   down = None;
   events = events;

@@ -1,5 +1,5 @@
 -- The parts of the kernel's state: each fact takes the part that it reads, and none takes the state.
-use Rattle.std.specs.Prelude.{ℕ, List, [], Option, None}
+use Rattle.std.specs.Prelude.{ℕ, List, [], drop, Option, Some, None}
 use Rattle.std.specs.Option.{option_map_or}
 use Rattle.object_model.specs.declared.book.Book.{Book}
 use Rattle.meta_rows.specs.declared.row_op.RowOp.{RowOp}
@@ -7,11 +7,16 @@ use Rattle.meta_rows.specs.Prelude.{Rows}
 use Rattle.meta_log.specs.declared.slot.Super.{Super}
 use Rattle.meta_log.specs.Prelude.{in_runs}
 use Rattle.log_facts.specs.Prelude.{FlushState, not_sent}
-use Rattle.switch_facts.specs.Prelude.{OtherPart}
+use Rattle.meta_log.specs.declared.runs.UnitRun.{UnitRun}
+use Rattle.meta_store.specs.Store.{Checking}
+use Rattle.switch_facts.specs.Prelude.{SlotPhase, unwritten, written, CheckPart, OtherPart}
+use Rattle.store_steps.specs.declared.flight.FlushState.{FlushState as StepFlush}
+use Rattle.store_steps.specs.declared.flight.FlushState.TheVariants as flush
 use Rattle.plan_rows.specs.declared.plan.FreshUnit.{FreshUnit}
 use Rattle.unit_allocator.specs.Prelude.{Space}
+use Rattle.store_steps.specs.declared.flight.Switching.{Switching}
 use Rattle.store_steps.specs.State.{State}
-use Rattle.store_steps.specs.Ready.{applied_count}
+use Rattle.store_steps.specs.Ready.{check_pieces, applied_count}
 use Rattle.store_steps.specs.Intents.{Intent, intents}
 use Rattle.store_steps.specs.UnderWay.{uncommitted, all_fresh, given_fresh, flush_of, second_flush, begun_ops, submitted_from}
 
@@ -73,7 +78,18 @@ half_part s = record {
   second = second_flush s.batch;
 }
 
--- the slots and the half that isn't in use, where no checkpoint is written
+-- how far the next superblock is, by its write and the flush behind that
+abbrev pub slot_phase : StepFlush → StepFlush → SlotPhase
+slot_phase flush.NotSent behind = unwritten
+slot_phase slot behind = written (flush_of behind)
+
+-- the checkpoint that is written: the pieces that weren't submitted are left of it
+abbrev pub other_check : List UnitRun → Option Checking → Option Switching → Option CheckPart
+other_check pieces (Some c) (Some w) =
+    Some (record { is_left = in_runs (drop c.given pieces); flush = flush_of w.flush; slot = slot_phase w.slot w.slot_flush })
+other_check pieces check switching = None
+
+-- the slots and the half that isn't in use
 abbrev pub other_part : State → OtherPart
 other_part s = record {
   sup = s.log.sup;
@@ -81,7 +97,7 @@ other_part s = record {
   tail = s.log.tail;
   number = s.log.number;
   is_stale = in_runs s.log.stale;
-  check = None;
+  check = other_check (check_pieces s.log) s.log.check s.switching;
 }
 
 -- the book, how many commits are acknowledged, how many are applied to the committed rows, and the intents of the open batch

@@ -1,11 +1,12 @@
 -- What a call makes of the rows.
 use Rattle.std.specs.Prelude.{◌≡◌, ℕ, ◌+◌, ◌-◌, ◌≤◌, List, [], ◌∷◌, ◌++◌, map}
 use Rattle.meta_rows.specs.Prelude.{rows_after}
-use Rattle.meta_log.specs.Prelude.{unit_count}
+use Rattle.meta_log.specs.Prelude.{unit_count, IsSuper, next_super}
 use Rattle.unit_allocator.specs.Prelude.{given, taken}
 use Rattle.selections.specs.Fair.{IsComplete}
 use Rattle.store_steps.specs.Intents.{Intent, is_in, ops_by, released_by, needs_by}
 use Rattle.store_steps.specs.Parts.{RowsPart}
+use Rattle.store_steps.specs.RowsWithin.{rows_units}
 
 -- one more is accepted
 abbrev pub joined : Intent → RowsPart → RowsPart
@@ -26,11 +27,17 @@ applied number front back p = record p {
   reserved = p.reserved - needs_by front;
 }
 
--- They stay, one more joins, they change places but not among those of one collection, or the first ones are committed, by a record that takes
--- no more than they need.
+-- the halves change places, where the next record's number is this one: the log is the committed rows as one record
+abbrev pub rewritten : ℕ → RowsPart → RowsPart
+rewritten number p = record p { sup = next_super p.sup number; tail = rows_units p.rows }
+
+-- They stay, one more joins, they change places but not among those of one collection, the first ones are committed, by a record that takes no more
+-- than they need and fits behind the tail, or the halves change places.
 pub data RowsGo : RowsPart → RowsPart → Type 0 where
   same : {p q : RowsPart} → q ≡ p → RowsGo p q
   joins : {p q : RowsPart} (x : Intent) → q ≡ joined x p → RowsGo p q
   reorders : {p q : RowsPart} (later : List Intent) → IsComplete is_in p.intents later → q ≡ record p { intents = later } → RowsGo p q
   applies : {p q : RowsPart} (number : ℕ) (front back : List Intent) → p.intents ≡ front ++ back
-      → unit_count number (ops_by front) ≤ needs_by front → q ≡ applied number front back p → RowsGo p q
+      → (unit_count number (ops_by front) ≤ needs_by front) × (p.tail + unit_count number (ops_by front) ≤ p.sup.half)
+      → q ≡ applied number front back p → RowsGo p q
+  switches : {p q : RowsPart} (number : ℕ) → IsSuper (next_super p.sup number) → q ≡ rewritten number p → RowsGo p q

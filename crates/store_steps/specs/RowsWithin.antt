@@ -19,7 +19,8 @@ rows_units rows = body_units (rows_size rows)
 abbrev pub NeedsEnough : Intent → Type 0
 NeedsEnough x = (number : ℕ) → unit_count number x.ops ≤ x.need
 
--- The committed rows as one record take no more units than the records of the log do, and the submitted ones no more than these and what is reserved.
+-- The committed rows as one record take no more units than the records of the log do, and the submitted ones no more than the
+-- committed ones and what is reserved.
 pub record AreRowsWithin (p : RowsPart) : Type 0 where
   pub committed : rows_units p.rows ≤ p.tail
-  pub submitted : rows_units p.submitted ≤ p.tail + p.reserved
+  pub submitted : rows_units p.submitted ≤ rows_units p.rows + p.reserved

@@ -8,6 +8,7 @@ use Rattle.unit_allocator.specs.Prelude.{Space}
 use Rattle.store_steps.specs.declared.context.Context.{Context}
 use Rattle.store_steps.specs.declared.flight.FlushState.{FlushState}
 use Rattle.store_steps.specs.declared.flight.Flying.{Flying}
+use Rattle.store_steps.specs.declared.flight.Switching.{Switching}
 
 -- the open batch: its contexts, and how far its two flushes are
 pub record Batch : Type 0 where
@@ -17,13 +18,14 @@ pub record Batch : Type 0 where
 
 -- `log` is the committed rows and where the log stands, with the units of it that are reserved for the records of transactions that
 -- aren't committed. `submitted` is the submitted rows: the committed ones with the operations of all contexts. `pending` are the contexts
--- in no batch, by place. `flying` is in the order of the device's flights. `events` counts the device's events since the mount
--- began, `acked` the acknowledged commits.
+-- in no batch, by place. `switching` is there exactly while a checkpoint is, in `log`. `flying` is in the order of the device's flights.
+-- `events` counts the device's events since the mount began, `acked` the acknowledged commits.
 pub record State : Type 0 where
   pub log : Meta
   pub submitted : Rows
   pub pending : List Context
   pub batch : Option Batch
+  pub switching : Option Switching
   pub flying : List Flying
   pub down : Option Ticket
   pub events : ℕ

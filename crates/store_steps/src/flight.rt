@@ -2,7 +2,7 @@
 
 use block_device::Ticket;
 
-/// How far a flush is.
+/// How far a flush is, or the write of a superblock.
 #[derive(Clone, Copy)]
 pub enum FlushState {
     NotSent,
@@ -10,6 +10,17 @@ pub enum FlushState {
     Sent(Ticket),
     /// It has ended well.
     Flushed,
+}
+
+/// A switch of halves: how far its three single submissions are, of which each comes when the one before it has ended.
+#[derive(Clone, Copy)]
+pub struct Switching {
+    /// The flush behind the checkpoint.
+    pub flush: FlushState,
+    /// The write of the next superblock.
+    pub slot: FlushState,
+    /// The flush behind that.
+    pub slot_flush: FlushState,
 }
 
 /// What a submission is for.
@@ -23,6 +34,14 @@ pub enum Job {
     Record,
     /// The flush behind the record.
     RecordFlush,
+    /// A piece of a checkpoint, in the half of the log that isn't in use.
+    Check,
+    /// The flush behind a checkpoint.
+    CheckFlush,
+    /// The next superblock, in the slot that isn't in use.
+    Slot,
+    /// The flush behind it.
+    SlotFlush,
 }
 
 /// A submission in flight.

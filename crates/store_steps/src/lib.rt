@@ -12,6 +12,6 @@ mod flight;
 mod step;
 
 pub use context::Context;
-pub use flight::{FlushState, Flying, Job};
+pub use flight::{FlushState, Flying, Job, Switching};
 pub use plan_rows::{FreshUnit, Plan};
 pub use step::{ALL_STEPS, Step};

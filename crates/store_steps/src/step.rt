@@ -7,7 +7,7 @@ pub enum Step {
     Data,
     /// Takes the end of one submission, if one is ready.
     Reap,
-    /// Opens a batch.
+    /// Opens a batch, or a checkpoint where the batch's record is too long for what the half has left.
     Take,
     /// Submits the flush of the batch's data.
     Flush,
@@ -21,10 +21,20 @@ pub enum Step {
     Commit,
     /// Acknowledges the first committed transaction that isn't acknowledged yet.
     Finish,
+    /// Submits the next piece of the checkpoint.
+    CheckWrite,
+    /// Submits the flush of the checkpoint.
+    CheckFlush,
+    /// Submits the next superblock, to the slot that isn't in use.
+    SlotWrite,
+    /// Submits the flush of the slot.
+    SlotFlush,
+    /// Has the halves change places.
+    Switch,
 }
 
 /// All steps, in the order of their table.
-pub const ALL_STEPS: [Step; 9] = [
+pub const ALL_STEPS: [Step; 14] = [
     Step::Data,
     Step::Reap,
     Step::Take,
@@ -34,4 +44,9 @@ pub const ALL_STEPS: [Step; 9] = [
     Step::Sync,
     Step::Commit,
     Step::Finish,
+    Step::CheckWrite,
+    Step::CheckFlush,
+    Step::SlotWrite,
+    Step::SlotFlush,
+    Step::Switch,
 ];

@@ -66,6 +66,13 @@ impl Waiting {
         self.context.fresh.as_slice()
     }
 
+    /// The units of the log that are reserved for a record of its operations.
+    pub fn need(&self) -> u32
+        ensures { result ≡ self.now.need }
+    {
+        self.context.need
+    }
+
     /// Whether a data write isn't submitted yet.
     pub fn has_unsent(&self) -> bool
         ensures { result ≡ is_some (unsent self.now) }

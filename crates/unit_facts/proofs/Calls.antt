@@ -1,18 +1,22 @@
 -- Each call of the kernel keeps what is known, where the kernel is up behind it: its footprint does.
-use Rattle.std.proofs.Common.{◌≡◌, ℕ, List, [], ◌∷◌, ◌++◌, Option, Some, None, sym, subst, ◌∙◌}
+use Rattle.std.proofs.Common.{◌≡◌, ℕ, List, [], ◌∷◌, ◌++◌, Option, Some, None, sym, ap, subst, ◌∙◌}
 use Rattle.std.specs.Prelude.{IfSome}
 use Rattle.std.proofs.lemmas.Option.{same_Some}
 use Rattle.std.specs.List.{AllByRecursion}
 use Rattle.std.specs.Option.{option_map_or}
 use Rattle.byte_maps.specs.Units.{IsUnits}
 use Rattle.block_device.specs.Prelude.{last, IsClean, Disk, History, Flight}
-use Rattle.meta_log.specs.Prelude.{in_runs}
+use Rattle.meta_log.specs.Prelude.{in_runs, check_records}
 use Rattle.log_facts.specs.Prelude.{not_sent, SlotsStand, ActiveHalfStands, OtherHalfRests}
 use Rattle.switch_facts.specs.Prelude.{OtherIsKnown}
 use Rattle.store_image.specs.Prelude.{IsDataUnit}
 use Rattle.store_steps.specs.declared.context.Context.{Context}
 use Rattle.plan_rows.specs.declared.plan.FreshUnit.{FreshUnit}
-use Rattle.store_steps.specs.Prelude.{Batch, State, uncommitted, all_fresh, flush_of, Found, opened, Call, Calls, data_part, half_part, other_part, Touch, after, Footprint}
+use Rattle.store_steps.specs.Prelude.{Batch, State, uncommitted, all_fresh, flush_of, Found, opened, Call, Calls, data_part, HalfPart, HalfGoes, half_part, other_part, check_pieces, begun_ops, submitted_from, second_flush, Touch, event_of, ticket_of, after, Footprint}
+use Rattle.store_steps.specs.HalfGoes as half
+use Rattle.switch_facts.specs.Prelude.{CheckPart}
+use Rattle.switch_facts.proofs.Steps.{switch_makes}
+use Rattle.run_facts.proofs.SwitchKnown.{checking_none}
 use Rattle.run_facts.specs.Prelude.{IsKept}
 use Rattle.unit_allocator.specs.Prelude.{Space}
 use Rattle.meta_rows.specs.declared.row_op.RowOp.{RowOp}
@@ -22,8 +26,8 @@ use Rattle.unit_facts.specs.Known.{IsAnsweredSince, KnownOfUnits, Knows}
 use Rattle.unit_facts.proofs.Events.{IsTold, told_of}
 use Rattle.unit_facts.proofs.Units.{AreOnData}
 use Rattle.unit_facts.proofs.DataKnown.{AreKnown, AreOnDevice, units_known}
-use Rattle.unit_facts.proofs.HalfKnown.{HalfStands, half_known}
-use Rattle.unit_facts.proofs.OtherKnown.{other_known}
+use Rattle.unit_facts.proofs.HalfKnown.{HalfStands, IsMoved, half_known}
+use Rattle.unit_facts.proofs.OtherKnown.{other_known, turned}
 
 -- ---- the batch's units
 
@@ -54,6 +58,27 @@ on_device s d kept up = record {
     of_batch None all = tt
     of_batch (Some b) all = batch_front (λ f. IsDataUnit s.log.sup f.unit) b.contexts s.pending all
 
+-- ---- a switch of halves
+
+-- while a checkpoint is written the active half has its records and no more, since no batch is open
+pub half_while_checking : {base : ℕ} (s : State) (d : Disk) (h : History) → IsKept s d → s.down ≡ None → (known : KnownOfUnits base s d h) → (c : CheckPart)
+    → (other_part s).check ≡ Some c
+    → ActiveHalfStands h s.log.sup s.log.rows s.log.tail s.log.number None (submitted_from s.log.number s.log.begun) (second_flush s.batch) known.half.recs
+half_while_checking s d h kept up known c is =
+    subst (λ (o : Option (List RowOp)). ActiveHalfStands h s.log.sup s.log.rows s.log.tail s.log.number o (submitted_from s.log.number s.log.begun)
+    (second_flush s.batch) known.half.recs) (ap begun_ops none) known.half.stands
+  where
+    none : s.log.begun ≡ None
+    none = checking_none s d kept up (check_pieces s.log) c is
+
+-- once the halves have changed places the other one stands
+half_moves : {base : ℕ} (s s' : State) (d d' : Disk) (h : History) (f : Footprint s d s' d') → KnownOfUnits base s d h
+    → (goes : HalfGoes d.flights f.touch (half_part s) (half_part s')) → IsMoved h (half_part s) goes
+half_moves s s' d d' h f known (half.switches is) =
+    let far = turned d.flights (ticket_of f.touch) (event_of f.touch) (other_part s) (other_part s') f.other (ap (λ (p : HalfPart). p.sup.epoch) is) in
+    record { recs = check_records s.log.rows; stands = switch_makes h (other_part s) far.0 far.1 far.2 known.other }
+half_moves s s' d d' h f known other = tt
+
 -- ---- each call
 
 pub footprint_known : (base : ℕ) (s s' : State) (d d' : Disk) (h : History) → (f : Footprint s d s' d') → IsKept s d → s.down ≡ None
@@ -68,11 +93,12 @@ footprint_known base s s' d d' h f kept up known =
     (on_device s d kept up) known.answered.quiet known.answered.each told.next
     (record { clean = known.clean; held = known.held; flushed_units = to_part h s.batch known.flushed }) in
     let half : HalfStands (after t h) (half_part s') =
-    half_known base d.flights t (half_part s) (half_part s') h f.half f.placed size kept.always.limits known.answered.quiet known.answered.each told.next
+    half_known base d.flights t (half_part s) (half_part s') h f.half (half_moves s s' d d' h f known f.half)
+    f.placed size kept.always.limits known.answered.quiet known.answered.each told.next
     (record { recs = known.half.recs; stands = known.half.stands }) in
     let other : OtherIsKnown (after t h) (other_part s') =
     other_known base d.flights t (other_part s) (other_part s') h f.other f.placed size kept.always.limits known.answered.quiet known.answered.each
-    told.next 0 not_sent known.half.recs (λ c none. absurd cc) known.other in
+    told.next (submitted_from s.log.number s.log.begun) (second_flush s.batch) known.half.recs (λ c is. half_while_checking s d h kept up known c is) known.other in
     record {
       told = told.told;
       answered = subst (IsAnsweredSince base (after t h) d'.flights) (sym f.counted) told.answered;

@@ -12,13 +12,13 @@ use Rattle.store_image.specs.Prelude.{IsDataUnit}
 use Rattle.log_facts.specs.Prelude.{sent, flushed}
 use Rattle.log_facts.proofs.Keeping.{half_before_data, half_spares_data, flush_sent}
 use Rattle.plan_rows.specs.declared.plan.FreshUnit.{FreshUnit}
-use Rattle.store_steps.specs.Prelude.{Unsent, unsent_units, DataPart, Touch, nothing, ends, flushes, on_data, on_half, after, run_write, IsPlaced, IsNoData, DataGoes, Gives, gives, opens, flushes_batch, retires}
+use Rattle.store_steps.specs.Prelude.{Unsent, unsent_units, DataPart, Touch, nothing, ends, flushes, on_data, on_half, on_other, on_slot, after, run_write, IsPlaced, IsNoData, DataGoes, Gives, gives, opens, flushes_batch, retires}
 use Rattle.flight_facts.proofs.Prelude.{all_join, all_left, all_right}
 use Rattle.unit_facts.specs.DataUnits.{DataUnitsAreClean, HeldBytesAreLast, UnitsAreFlushed}
 use Rattle.unit_facts.proofs.RunWrites.{row_spares, run_held}
-use Rattle.unit_facts.proofs.Units.{AreOnData, spares_data, none_written, fits_quiet, clean_on, held_on, flushed_on, none_flushed, units_cleaned, other_or_clean}
+use Rattle.unit_facts.proofs.Units.{AreOnData, other_before_data, other_spares_data, slot_spares_data, spares_data, none_written, fits_quiet, clean_on, held_on, flushed_on, none_flushed, units_cleaned, other_or_clean}
 use Rattle.unit_facts.proofs.Events.{HasNextTicket}
-use Rattle.store_steps.specs.DataGoes.{same, is_flushed}
+use Rattle.store_steps.specs.DataGoes.{same, is_flushed, switches}
 
 -- what is known of the data units of contexts
 pub record AreKnown (h : History) (p : DataPart) : Type 0 where
@@ -54,6 +54,11 @@ same_known (flushes ticket) p h spares placed size limits on known = quiet h Flu
 same_known (on_data ticket run) p h spares placed size limits on known = absurd spares
 same_known (on_half ticket unit bytes) p h spares placed size limits on known =
     spared h (Write unit bytes) p (omega (arith, placed.1, half_before_data p.sup, limits.room, size)) (λ u is. half_spares_data p.sup unit u bytes placed.1 is) on known
+same_known (on_other ticket unit bytes) p h spares placed size limits on known =
+    spared h (Write unit bytes) p (omega (arith, placed.1, other_before_data p.sup, limits.room, size))
+    (λ u is. other_spares_data p.sup unit u bytes placed.1 is) on known
+same_known (on_slot ticket unit bytes) p h spares placed size limits on known =
+    spared h (Write unit bytes) p (omega (arith, placed.0, placed.1, limits.room, size)) (λ u is. slot_spares_data p.sup unit u bytes placed.0 placed.1 is) on known
 
 -- a run is submitted
 module _ (h : History) (run : Unsent) (p q : DataPart) (g : Gives run p q) (fit : EventFits (length (last h.start h.log)) (run_write run)) where
@@ -143,3 +148,5 @@ units_known base flights t p q h (retires rest was before is) placed size limits
       held = all_right (λ (f : FreshUnit). last_at h f.unit ≡ f.bytes) p.fresh rest (subst (HeldBytesAreLast h) before known.held);
       flushed_units = tt;
     })
+units_known base flights t p q h (switches number is) placed size limits on quiet_since each next known =
+    subst (AreKnown h) (sym is) (record { clean = known.clean; held = known.held; flushed_units = known.flushed_units })

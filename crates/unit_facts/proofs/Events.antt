@@ -6,7 +6,7 @@ use Rattle.block_device.specs.Prelude.{Disk, History, history_after, flight_of, 
 use Rattle.block_device.specs.declared.event.Event.{Event}
 use Rattle.block_device.specs.declared.event.Event.TheVariants.{Write, Flush, Done}
 use Rattle.block_device.proofs.QuietLemmas.{quiet_push, answered_submit, answered_done}
-use Rattle.store_steps.specs.Prelude.{Touch, nothing, ends, flushes, on_data, on_half, Adds, after, events_of, run_write}
+use Rattle.store_steps.specs.Prelude.{Touch, nothing, ends, flushes, on_data, on_half, on_other, on_slot, Adds, after, events_of, run_write}
 use Rattle.unit_facts.specs.Known.{IsAnsweredSince}
 
 -- a flush has the next ticket
@@ -89,6 +89,16 @@ told_of base events h d d' (on_data ticket run) adds told a = record {
   next = tt;
 }
 told_of base events h d d' (on_half ticket unit bytes) adds told a = record {
+  told = told_sent base events h d d' told a ticket (Write unit bytes) adds;
+  answered = answered_sent base events h d d' told a ticket (Write unit bytes) adds;
+  next = tt;
+}
+told_of base events h d d' (on_other ticket unit bytes) adds told a = record {
+  told = told_sent base events h d d' told a ticket (Write unit bytes) adds;
+  answered = answered_sent base events h d d' told a ticket (Write unit bytes) adds;
+  next = tt;
+}
+told_of base events h d d' (on_slot ticket unit bytes) adds told a = record {
   told = told_sent base events h d d' told a ticket (Write unit bytes) adds;
   answered = answered_sent base events h d d' told a ticket (Write unit bytes) adds;
   next = tt;

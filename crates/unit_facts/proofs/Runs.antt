@@ -5,14 +5,16 @@ use Rattle.block_device.specs.Prelude.{IsClean, Disk, History}
 use Rattle.meta_rows.specs.declared.row_op.RowOp.{RowOp}
 use Rattle.meta_rows.specs.Prelude.{Rows}
 use Rattle.meta_log.specs.declared.slot.Super.{Super}
-use Rattle.meta_log.specs.Prelude.{active_unit, data_unit}
+use Rattle.meta_log.specs.Prelude.{active_unit, data_unit, in_runs}
 use Rattle.plan_drafts.specs.Prelude.{PlansKeep}
 use Rattle.store_steps.specs.declared.context.Context.{Context}
 use Rattle.meta_store.specs.Store.{Begun}
-use Rattle.store_steps.specs.Prelude.{State, is_drained, Call, IsRun, uncommitted, given_fresh, begun_ops, submitted_from, second_flush}
+use Rattle.store_steps.specs.Prelude.{State, is_drained, Call, IsRun, uncommitted, given_fresh, begun_ops, submitted_from, second_flush, check_pieces, other_check, other_part}
+use Rattle.switch_facts.proofs.Steps.{known_as}
+use Rattle.run_facts.proofs.SwitchFootprints.{none_open}
 use Rattle.run_facts.specs.Prelude.{IsKept}
 use Rattle.run_facts.proofs.Prelude.{kept_call, known_idle, IsIdle, idle_uncommitted, was_up}
-use Rattle.log_facts.specs.Prelude.{FlushState, ActiveHalfStands}
+use Rattle.log_facts.specs.Prelude.{FlushState, SlotsStand, OtherHalfRests, ActiveHalfStands}
 use Rattle.unit_facts.specs.DataUnits.{DataUnitsAreClean}
 use Rattle.unit_facts.specs.Known.{KnownOfUnits, Knows}
 use Rattle.unit_facts.proofs.OtherKnown.{log_clean}
@@ -57,12 +59,19 @@ half_clean h s rows tail number k second recs stands below = elim (cases_lt k ta
   | inr behind ↦ (stands.zero_behind k (omega (arith, behind)) below).clean
 ]
 
-pub idle_clean : (base : ℕ) (s : State) (d : Disk) (h : History) → KnownOfUnits base s d h → s.log.begun ≡ None → uncommitted s ≡ []
-    → (unit : ℕ) → IsClean h.log unit
-idle_clean base s d h known none idle unit = elim (cases_lt unit (data_unit s.log.sup)) [
+-- no checkpoint is written
+pub idle_other : (base : ℕ) (s : State) (d : Disk) (h : History) → KnownOfUnits base s d h → s.switching ≡ None
+    → SlotsStand h s.log.sup × OtherHalfRests h s.log.sup (in_runs s.log.stale)
+idle_other base s d h known rests = known_as h (other_part s) None
+    (ap (other_check (check_pieces s.log) s.log.check) rests ∙ none_open (check_pieces s.log) s.log.check) known.other
+
+pub idle_clean : (base : ℕ) (s : State) (d : Disk) (h : History) → KnownOfUnits base s d h → s.log.begun ≡ None → s.switching ≡ None
+    → uncommitted s ≡ [] → (unit : ℕ) → IsClean h.log unit
+idle_clean base s d h known none rests idle unit = elim (cases_lt unit (data_unit s.log.sup)) [
   | inl inside ↦
       let half = idle_half base s d h known none in
-      log_clean h s.log.sup known.other.0 known.other.1.clean
+      let other = idle_other base s d h known rests in
+      log_clean h s.log.sup other.0 other.1.clean
       (λ k below. half_clean h s.log.sup s.log.rows s.log.tail s.log.number k (second_flush s.batch) half.0 half.1 below) unit inside
   | inr behind ↦ subst (λ (xs : List Context). DataUnitsAreClean h s.log.sup (given_fresh xs)) idle known.clean unit behind tt
 ]
@@ -71,4 +80,4 @@ pub drained_clean : (base : ℕ) (s : State) (d : Disk) (h : History) → IsKept
     → is_drained d.depth s ≡ true → (unit : ℕ) → IsClean h.log unit
 drained_clean base s d h kept known up drained =
     let idle : IsIdle s = known_idle s d kept up drained in
-    idle_clean base s d h known idle.begun (idle_uncommitted s idle)
+    idle_clean base s d h known idle.begun idle.switching (idle_uncommitted s idle)

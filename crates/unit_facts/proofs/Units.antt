@@ -1,6 +1,6 @@
 -- What is known of the data units, over an event that writes none of them, and as a batch is flushed and committed.
-use Rattle.std.proofs.Common.{◌≢◌, ◌⊎◌, inl, inr, true, ℕ, ◌≤◌, List, [], ◌∷◌, length}
-use Rattle.std.proofs.Common.{subst}
+use Rattle.std.proofs.Common.{◌≡◌, ◌≢◌, ◌⊎◌, inl, inr, true, ℕ, ◌+◌, ◌*◌, ◌≤◌, List, [], ◌∷◌, length}
+use Rattle.std.proofs.Common.{sym, subst}
 use Rattle.std.proofs.Common.{◌∙◌, arith}
 use Rattle.std.specs.List.{AllByRecursion}
 use Rattle.std.proofs.lemmas.Bool.{cases_eq}
@@ -9,10 +9,11 @@ use Rattle.block_device.specs.declared.event.Event.{Event}
 use Rattle.block_device.specs.declared.event.Event.TheVariants.{Write, Flush, Done}
 use Rattle.block_device.proofs.LogLemmas.{clean_push}
 use Rattle.meta_log.specs.declared.slot.Super.{Super}
-use Rattle.meta_log.specs.Prelude.{data_unit}
+use Rattle.meta_log.specs.Prelude.{data_unit, other_unit, other_slot, next_super}
 use Rattle.store_image.specs.Prelude.{IsDataUnit}
 use Rattle.log_facts.specs.Prelude.{FlushState, not_sent, sent, flushed}
-use Rattle.log_facts.proofs.Keeping.{last_push, flushed_push, flush_ended, nothing_written}
+use Rattle.log_facts.proofs.Keeping.{half_before_data, half_spares_data, last_push, flushed_push, flush_ended, nothing_written}
+use Rattle.log_facts.proofs.Switching.{follows}
 use Rattle.plan_rows.specs.declared.plan.FreshUnit.{FreshUnit}
 use Rattle.store_steps.specs.Prelude.{Spares}
 use Rattle.unit_facts.specs.DataUnits.{DataUnitsAreClean, HeldBytesAreLast, UnitsAreFlushed}
@@ -21,6 +22,20 @@ use Rattle.unit_facts.specs.DataUnits.{DataUnitsAreClean, HeldBytesAreLast, Unit
 
 abbrev pub AreOnData : Super → List FreshUnit → Type 0
 AreOnData s fresh = AllByRecursion (λ f. IsDataUnit s f.unit) fresh
+
+-- ---- the other half, and the other slot, lie before the data units
+
+pub other_before_data : (s : Super) → other_unit s + s.half ≤ data_unit s
+other_before_data s = subst (λ (n : ℕ). n + s.half ≤ data_unit s) (sym (follows s 0)) (half_before_data (next_super s 0))
+
+pub other_spares_data : (s : Super) (at unit : ℕ) (bytes : List ℕ) → 4096 * at + length bytes ≤ 4096 * (other_unit s + s.half) → data_unit s ≤ unit
+    → ¬ WritesUnit unit (Write at bytes)
+other_spares_data s at unit bytes inside behind = half_spares_data (next_super s 0) at unit bytes
+    (subst (λ (n : ℕ). 4096 * at + length bytes ≤ 4096 * (n + s.half)) (follows s 0) inside) behind
+
+pub slot_spares_data : (s : Super) (at unit : ℕ) (bytes : List ℕ) → at ≡ other_slot s → length bytes ≡ 4096 → data_unit s ≤ unit
+    → ¬ WritesUnit unit (Write at bytes)
+slot_spares_data s at unit bytes is size behind covers = omega (arith, is, size, behind, covers.1)
 
 -- ---- an event that writes none of the data units
 

@@ -1,5 +1,5 @@
 -- How often places are in a heap, and which is the least.
-use Rattle.std.proofs.Common.{◌≡◌, ℕ, ◌+◌, ◌<◌, ◌≤◌, ◌==◌, Bool, false, cond, List, [], ◌∷◌, map, refl, sym, ap, ◌∙◌, arith}
+use Rattle.std.proofs.Common.{◌≡◌, ℕ, ◌+◌, ◌<◌, ◌≤◌, ◌==◌, Bool, false, cond, List, [], ◌∷◌, length, map, slice_index_or, refl, sym, ap, ◌∙◌, arith}
 use Rattle.std.specs.List.{AllByRecursion, sum_by}
 use Rattle.std.specs.List.Sorted.{IsPermutation}
 use Rattle.std.specs.BinaryHeap.{IsUpperBound}
@@ -49,3 +49,15 @@ is_least x xs ys moved bound = record { among = above_zero; least = all_above x 
 
     above_zero : 0 < count_of x.0 (places_of xs)
     above_zero = omega (arith, own, one_less x xs ys moved x.0)
+
+-- and so it is of what is on top
+pub top_is_least : (x : Reverse ℕ) (xs : List (Reverse ℕ)) → 0 < length xs → x ≡ slice_index_or xs 0 x
+    → IsUpperBound (λ (a b : Reverse ℕ). nat_cmp b.0 a.0) x xs → IsLeast x.0 (places_of xs)
+top_is_least x [] some is bound = absurd (omega (arith, some))
+top_is_least x (y ∷ ys) some is bound = record { among = above_zero; least = all_above x (y ∷ ys) bound }
+  where
+    own : ◌≡◌ {A = ℕ} (cond (y.0 == x.0) 1 0) 1
+    own = ap (λ (b : Bool). cond b 1 0) (eq-eqb y.0 x.0 (sym (ap (λ (r : Reverse ℕ). r.0) is)))
+
+    above_zero : 0 < count_of x.0 (places_of (y ∷ ys))
+    above_zero = omega (arith, own)

@@ -188,6 +188,17 @@ impl Contexts {
         !self.heads.is_empty()
     }
 
+    /// The context that the next batch is of, lent: that which `take_chosen` takes.
+    pub fn next_chosen(&self) -> Option<&Waiting>
+        ensures { option_copied result ≡ chosen self.now }
+    {
+        self.submissions.facts();
+        let Some(place) = self.heads.first() else {
+            return None;
+        };
+        self.submissions.get(place)
+    }
+
     /// Takes the context that the next batch is of. (Ceph's `_txc_finish_io` queues it.)
     pub fn take_chosen(&mut self) -> Queued
         requires { is_some (chosen self.old) ≡ true }

@@ -62,6 +62,16 @@ impl DoneHeads {
         self.heap.is_empty()
     }
 
+    /// The least place, which stays.
+    pub fn first(&self) -> Option<u32>
+        ensures { MatchOption result (self.now.places ≡ []) (λ p. IsLeast p self.now.places) }
+    {
+        let Some(Reverse(place)) = self.heap.peek() else {
+            return None;
+        };
+        Some(*place)
+    }
+
     /// Takes the least place away.
     pub fn pop(&mut self) -> Option<u32>
         ensures least { MatchOption result (self.old.places ≡ []) (λ p. IsLeast p self.old.places) }

@@ -1,8 +1,9 @@
 //! The steps, one by one. Each has at most one event of the device.
-ghost use Rattle.std.specs.Prelude.{◌≡◌, ◌≤◌, true, false, OnOk, IfErr};
+ghost use Rattle.std.specs.Prelude.{◌≡◌, ◌≤◌, true, false, IsTrue, OnOk, IfErr};
 ghost use Rattle.block_device.specs.Prelude.{Rose};
-ghost use Rattle.store_steps.specs.Prelude.{is_ready, Takes, DoesData, DoesReap, DoesTake, DoesFlush, DoesSeal, DoesRecord, DoesSync, DoesCommit, DoesFinish};
+ghost use Rattle.store_steps.specs.Prelude.{is_ready, Takes, DoesData, DoesReap, OpensBatch, DoesTake, DoesFlush, DoesSeal, DoesRecord, DoesSync, DoesCommit, DoesFinish};
 ghost use Rattle.store_steps.specs.declared.step.Step.TheVariants as step;
+ghost use Rattle.store_kernel.specs.Steps.{NextFits, NextIsTooLong};
 
 use super::Kernel;
 use crate::batch::{OpenBatch, Stage, set_first, set_second};
@@ -68,14 +69,47 @@ impl<D: Device> Kernel<D> {
             return Err(StepFail::Fault);
         }
         if let Some(job) = counting(self.down, landed) {
-            count_end(job, &mut self.contexts, &mut self.batch, &mut self.meta);
+            count_end(
+                job,
+                &mut self.contexts,
+                &mut self.batch,
+                &mut self.switching,
+                &mut self.meta,
+            );
         }
         Ok(())
     }
 
-    pub(super) fn take_batch(&mut self) -> Result<(), StepFail>
+    // Whether the record of the transaction that comes next fits behind the tail.
+    fn next_fits(&self) -> bool
+        requires { is_ready step.Take (D.disk self.now.device).depth self.now.state ≡ true }
+        ensures fits { IsTrue result → NextFits self.now.state }
+        ensures too_long { result ≡ false → NextIsTooLong self.now.state }
+    {
+        let Some(next) = self.contexts.next_chosen() else {
+            return false;
+        };
+        next.need() <= self.meta.sup().half - self.meta.tail()
+    }
+
+    pub(super) fn take_next(&mut self, alloc: Global) -> Result<(), StepFail>
         requires { is_ready step.Take (D.disk self.old.device).depth self.old.state ≡ true }
         ensures ok { OnOk result (DoesTake self.old.state (D.disk self.old.device) self.new.state (D.disk self.new.device)) }
+        ensures err { IfErr result (λ fail. (fail ≡ StepFail.Memory) × (self.new.state ≡ self.old.state)
+            × (D.disk self.new.device ≡ D.disk self.old.device)) }
+        ensures faults { D.faults self.new.device ≡ D.faults self.old.device }
+    {
+        if self.next_fits() {
+            self.take_batch()
+        } else {
+            self.open_check(alloc)
+        }
+    }
+
+    fn take_batch(&mut self) -> Result<(), StepFail>
+        requires ready { is_ready step.Take (D.disk self.old.device).depth self.old.state ≡ true }
+        requires fits { NextFits self.old.state }
+        ensures ok { OnOk result (OpensBatch self.old.state (D.disk self.old.device) self.new.state (D.disk self.new.device)) }
         ensures err { IfErr result (λ fail. (fail ≡ StepFail.Memory) × (self.new.state ≡ self.old.state)
             × (D.disk self.new.device ≡ D.disk self.old.device)) }
         ensures faults { D.faults self.new.device ≡ D.faults self.old.device }

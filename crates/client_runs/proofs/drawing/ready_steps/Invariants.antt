@@ -8,5 +8,5 @@ invariant-steps g l = record {
   table : l.step-items ≡ all_steps;
   so_far : take l.count l.ready ≡ filter (λ step. is_ready step (g.D.Device.disk l.kernel.device).depth l.kernel.state) (take l.step-index l.step-items);
   few : l.count ≤ l.step-index;
-  room : length l.ready ≡ 9;
+  room : length l.ready ≡ 14;
 }

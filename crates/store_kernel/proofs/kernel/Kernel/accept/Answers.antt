@@ -3,6 +3,7 @@ use Rattle.plan_rows.specs.declared.plan.FreshUnit.{FreshUnit}
 use Rattle.store_steps.specs.declared.context.Context.{Context}
 use Rattle.unit_allocator.specs.Prelude.{taken}
 use Rattle.write_buffers.specs.Prelude.{memory_in}
+use Rattle.run_facts.proofs.SwitchFootprints.{check_fits}
 use Rattle.store_kernel.proofs.Keeping.{known_accept, known_same}
 use Rattle.store_kernel.proofs.Memories.{accept_memory}
 use Rattle.store_kernel.proofs.Admitting.{planned_keeps, fresh_is_free, fresh_are_few, fresh_absent, found_added, added_is_found, accepted_state, accepted}
@@ -27,6 +28,11 @@ enter-requires-clause-ascend g c =
     let prepared = rw (← c.self.view_is) at c.requires.prepared in
     rw c.split-context.ensures.context
     (planned_keeps _ _ c.args.txn c.args.ready.plan c.self.invariant.kept can c.requires.known prepared.plan).ascend
+
+pub reserve-requires-2 : goal.reserve-requires-2
+reserve-requires-2 g c =
+    let can = rw (← c.self.view_is) at c.requires.can_note in
+    check_fits _ _ c.self.invariant.kept can.up
 
 pub unreachable-requires-in_default-get : goal.unreachable-requires-in_default-get
 unreachable-requires-in_default-get g c =
@@ -76,11 +82,11 @@ invariant_of-self-2 g c =
     found_added _ _ c.enter.new.contexts x c.in-Some.added.now c.len-place.result c.self.invariant.kept can entry place c.in-Ok.ensures.waits c.in-Some.ensures in
     let space = c.take_fresh.ensures ∙ ap (λ (fs : List FreshUnit). taken k.space (map (λ (f : FreshUnit). f.unit) fs)) (c.fresh.ensures ∙ ap (λ (y : Context). y.fresh) added) in
     let fresh = ap (λ (y : Context). y.fresh) c.split-context.ensures.context in
-    let is = accepted_state k.meta k.submitted.rows k.contexts k.batch k.flying.items k.down k.events k.space k.entries.items k.commits.items k.acked
+    let is = accepted_state k.meta k.submitted.rows k.contexts k.batch k.switching k.flying.items k.down k.events k.space k.entries.items k.commits.items k.acked
     c.args.client c.args.line c.args.txn c.args.ready (g.D.Device.disk k.device) c.reserve-2.new.self c.apply.new.self.rows c.enter.new.contexts x c.len-place.result c.take_fresh.new.space
     c.push_reserved.new.self.items can prepared c.in-Ok-reserve.ensures.set_aside (cc) c.in-Ok.ensures.waits c.split-context.ensures.context entry space (cc) in
     known_accept _ _ _ _ _ _ c.args.client c.args.line c.args.txn c.self.invariant c.requires.known
-    (accepted k.meta k.submitted.rows k.contexts k.batch k.flying.items k.down k.events k.space k.entries.items k.commits.items k.acked
+    (accepted k.meta k.submitted.rows k.contexts k.batch k.switching k.flying.items k.down k.events k.space k.entries.items k.commits.items k.acked
     c.args.client c.args.line c.args.txn c.args.ready (g.D.Device.disk k.device) c.reserve-2.new.self c.apply.new.self.rows c.enter.new.contexts x c.len-place.result c.take_fresh.new.space
     c.push_reserved.new.self.items can prepared c.in-Ok-reserve.ensures.set_aside (cc) c.in-Ok.ensures.waits c.split-context.ensures.context entry space (cc))
     (accept_memory _ _ c.args.client c.args.line c.args.txn c.args.ready.plan x (memory_in k.buffers) (memory_in c.enter.new.buffers) is fresh
@@ -98,6 +104,6 @@ returns-clause-accepted g c =
     found_added _ _ c.enter.new.contexts x c.in-Some.added.now c.len-place.result c.self.invariant.kept can entry place c.in-Ok.ensures.waits c.in-Some.ensures in
     let space = c.take_fresh.ensures ∙ ap (λ (fs : List FreshUnit). taken k.space (map (λ (f : FreshUnit). f.unit) fs)) (c.fresh.ensures ∙ ap (λ (y : Context). y.fresh) added) in
     rw (← c.self.view_is)
-    (accepted k.meta k.submitted.rows k.contexts k.batch k.flying.items k.down k.events k.space k.entries.items k.commits.items k.acked
+    (accepted k.meta k.submitted.rows k.contexts k.batch k.switching k.flying.items k.down k.events k.space k.entries.items k.commits.items k.acked
     c.args.client c.args.line c.args.txn c.args.ready (g.D.Device.disk k.device) c.reserve-2.new.self c.apply.new.self.rows c.enter.new.contexts x c.len-place.result c.take_fresh.new.space
     c.push_reserved.new.self.items can prepared c.in-Ok-reserve.ensures.set_aside (cc) c.in-Ok.ensures.waits c.split-context.ensures.context entry space (cc))

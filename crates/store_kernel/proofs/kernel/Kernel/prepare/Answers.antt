@@ -1,8 +1,14 @@
 use Rattle.std.proofs.Common.{ap, ◌∙◌}
 use Rattle.meta_store.specs.Store.{room_of}
 use Rattle.store_steps.specs.Prelude.{State}
+use Rattle.run_facts.proofs.SwitchFootprints.{check_fits}
 use Rattle.store_kernel.proofs.Admitting.{enough}
 use Rattle.store_kernel.proofs.kernel.Kernel.prepare.Goals as goal
+
+pub room-room-requires : goal.room-room-requires
+room-room-requires g c =
+    let same = rw (← c.self.view_is) at c.in_ok-plan.ensures.same in
+    check_fits _ _ c.self.invariant.kept (ap (λ (s : State). s.down) same ∙ c.requires.can_note.up)
 
 pub returns-then-room-need-clause-err : goal.returns-then-room-need-clause-err
 returns-then-room-need-clause-err g c =

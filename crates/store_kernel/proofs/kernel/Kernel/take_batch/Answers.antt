@@ -1,4 +1,4 @@
-use Rattle.std.proofs.Common.{sym, ◌∙◌}
+use Rattle.std.proofs.Common.{inl, is_some, sym, ap, ◌∙◌}
 use Rattle.store_steps.specs.declared.step.Step.TheVariants.{Take}
 use Rattle.store_kernel.proofs.Keeping.{known_step}
 use Rattle.store_kernel.proofs.Batches.{take_does, none_begun}
@@ -8,12 +8,14 @@ use Rattle.store_kernel.proofs.kernel.Kernel.take_batch.Goals as goal
 pub invariant_of-self-2 : goal.invariant_of-self-2
 invariant_of-self-2 g c =
     let kept = c.self.invariant.kept in
-    let ready = rw (← c.self.view_is) at c.requires in
-    let does = take_does _ _ _ _ _ c.in-Some.ensures c.queued.ensures in
+    let ready = rw (← c.self.view_is) at c.requires.ready in
+    let fits = rw (← c.self.view_is) at c.requires.fits in
+    let does = take_does _ _ _ _ _ fits c.in-Some.ensures c.queued.ensures in
     rw (c.push_reserved.ensures.items, c.reserve.ensures.items, c.place.ensures, c.replace.ensures.after)
-    (known_step Take _ _ _ _ _ _ _ _ c.self.invariant ready does kept.always.device (none_begun _ _ kept ready)
+    (known_step Take _ _ _ _ _ _ _ _ c.self.invariant ready (inl does) kept.always.device (sym (ap is_some (none_begun _ _ kept ready).begun))
     (c.self.invariant.memory ∙ sym (take_memory _ _ _ _ kept ready does)))
 
 pub returns-clause-ok : goal.returns-clause-ok
 returns-clause-ok g c =
-    rw (c.push_reserved.ensures.items, c.reserve.ensures.items, c.place.ensures, c.replace.ensures.after, ← c.self.view_is) (take_does _ _ _ _ _ c.in-Some.ensures c.queued.ensures)
+    let fits = rw (← c.self.view_is) at c.requires.fits in
+    rw (c.push_reserved.ensures.items, c.reserve.ensures.items, c.place.ensures, c.replace.ensures.after, ← c.self.view_is) (take_does _ _ _ _ _ fits c.in-Some.ensures c.queued.ensures)

@@ -1,8 +1,9 @@
 #!/usr/bin/env python3
-"""Spells a record of the log by hand, for tests and benchmarks that look at a device's bytes or make their own. It is written from
-docs/formats.md and shares nothing with the crates.
+"""Spells a record of the log or a superblock slot by hand, for tests and benchmarks that look at a device's bytes or make their own. It
+is written from docs/formats.md and shares nothing with the crates.
 
-Usage: tests/log_record.py NUMBER OP.., the record's number and its operations in hexadecimal digits: it prints the record's units."""
+Usage: tests/log_record.py NUMBER OP.., the record's number and its operations in hexadecimal digits: it prints the record's units.
+tests/log_record.py slot UNITS HALF EPOCH FIRST: it prints the slot's unit."""
 
 import sys
 
@@ -39,5 +40,19 @@ def record_units(number, ops):
     return record + bytes(-len(record) % UNIT)
 
 
+def slot_unit(units, half, epoch, first):
+    """The unit of a slot, with 32768 as the fewest bytes of a write that isn't deferred."""
+    fields = b"".join(number.to_bytes(4, "little") for number in (1, units, half, 32768))
+    fields = (b"BSTORE01" + fields + epoch.to_bytes(8, "little") + first.to_bytes(8, "little")).ljust(UNIT - 4, b"\0")
+    return fields + crc32c(fields).to_bytes(4, "little")
+
+
+def spelled(words):
+    """What these words say."""
+    if words[0] == "slot":
+        return slot_unit(*map(int, words[1:]))
+    return record_units(int(words[0]), [bytes.fromhex(op) for op in words[1:]])
+
+
 if __name__ == "__main__":
-    sys.stdout.buffer.write(record_units(int(sys.argv[1]), [bytes.fromhex(op) for op in sys.argv[2:]]))
+    sys.stdout.buffer.write(spelled(sys.argv[1:]))

@@ -2,15 +2,19 @@
 """Runs random scripts of 1 to 8 clients by the built program on real files, and compares what it says and leaves with a second store
 that is written here from the documents and shares nothing with the crates: each reply, the last line, `dump`, and the device, read byte
 by byte. The model draws from the seed what comes next, as the program does, so it knows in which order clients and steps come. The
-device must have exactly the objects and records of the model, each page must have its checksum, and the bitmap must have exactly the
-units that objects own. One run in seven is killed at one of its calls, a write or a flush of the device or a write of replies, which is
-drawn: then the device must be that of the model after some of the commits, from the first on, with all whose second flush had returned, and
-all that the replies call `ok`. Where strace can't trace a program these runs are whole ones, which is said. Before these rounds the program
-runs scripts whose replies were reckoned by hand.
+device must have exactly the slots, records and objects of the model, in the other half no unit but the stale ones may differ from zeros,
+each page must have its checksum, and the bitmap must have exactly the units that objects own. Most halves are so small that they are
+switched several times, and what a device had before it was made may be records of numbers that come next. One run in five is killed at a
+call for a job that is drawn, that of some step, of the opening or of a reply: then the device must be that of the model after some of the
+commits, from the first on, with all whose second flush had returned, and all that the replies call `ok`. Where strace can't trace a
+program these runs are whole ones, which is said. Before these rounds the program runs scripts whose replies and slots were reckoned by
+hand.
 
-Usage: tests/model.py [ROUNDS] [SEED] [PROGRAM], or tests/model.py --self-test, which runs the model alone on the scripts whose replies
-were reckoned by hand. It ends with status 1 where something differs, and says in which round."""
+Usage: tests/model.py [ROUNDS] [SEED] [PROGRAM], or tests/model.py --self-test, which runs the model alone on the scripts that were reckoned
+by hand, and compares the events too. It ends with status 1 where something differs, and says in which round, or where no round switched
+the halves."""
 
+import copy
 import os
 import random
 import re
@@ -24,7 +28,7 @@ from dataclasses import dataclass, field, replace
 from functools import partial
 
 sys.dont_write_bytecode = True  # the module stands beside this file, in the checkout
-from log_record import crc32c
+from log_record import AFTER_BYTE, crc32c, record_units, set_op
 
 UNIT = 4096
 OBJECT_LIMIT = 134217728
@@ -39,15 +43,32 @@ DEPTH = 64
 # ---- the checksum
 
 
+def image(images, kept):
+    """What a linear map makes of a number, by its images of the 32 bits."""
+    found = 0
+    for bit, it in enumerate(images):
+        found ^= it * (kept >> bit & 1)
+    return found
+
+
 CHECKSUMS = {}
+# What one zero byte behind makes of a checksum, what two, four, and so on up to a page.
+ZEROS_BEHIND = [[AFTER_BYTE[it & 255] ^ it >> 8 for it in (1 << bit for bit in range(32))]]
+for _ in range(12):
+    ZEROS_BEHIND.append([image(ZEROS_BEHIND[-1], it) for it in ZEROS_BEHIND[-1]])
 
 
 def checksum(data):
-    """CRC-32C. What was asked once is kept, since pages of the same byte come again and again."""
-    data = bytes(data)
-    if data not in CHECKSUMS:
-        CHECKSUMS[data] = crc32c(data)
-    return CHECKSUMS[data]
+    """CRC-32C, put together of those of the pages, which are kept, since pages of the same byte come again and again."""
+    found = 0
+    for at in range(0, len(data), UNIT):
+        page = bytes(data[at : at + UNIT])
+        if page not in CHECKSUMS:
+            CHECKSUMS[page] = crc32c(page)
+        for power, images in enumerate(ZEROS_BEHIND):
+            found = image(images, found) if len(page) >> power & 1 else found
+        found ^= CHECKSUMS[page]
+    return found
 
 
 # ---- the model
@@ -110,13 +131,15 @@ def escaped(name):
 @dataclass
 class Transaction:
     """An accepted transaction: its collection and what that has after it, the units that it takes and releases, how many its record
-    has, whose it is, and the line of its reply. Of its data writes, so many are submitted, and so many have ended."""
+    has, by how many bytes it makes the rows of objects longer, whose it is, and the line of its reply. Of its data writes, so many are
+    submitted, and so many have ended."""
 
     coll: bytes
     objects: dict
     taken: list
     released: list
     record: int
+    longer: int
     client: object = None
     line: int = 0
     sent: int = 0
@@ -138,24 +161,52 @@ def runs_of(units):
 
 
 class Store:
-    """What a store has: collections of objects, free units, and how many units the log's records take. Objects aren't changed, and the
-    objects of a collection are replaced as a whole, so that copies share them."""
+    """What a store has: collections of objects, free units, and how many bytes the operations have that set the rows of its objects. Of its
+    log: the slots, each as its epoch and its first number, the next record's number, how many units the records in the active half take,
+    and which of the other half may not be zero. Of a run: how many commits it has. Objects aren't changed, and the objects of a collection
+    are replaced as a whole, so that copies share them."""
 
     def __init__(self, units, half):
-        self.units, self.half, self.tail = units, half, 0
-        self.colls, self.free, self.accepted = {}, set(range(2 * half + 2, units)), None
+        self.units, self.half = units, half
+        self.colls, self.free, self.row_bytes = {}, set(range(2 * half + 2, units)), 0
+        self.slots, self.number, self.tail, self.stale = [(0, 0), None], 0, 0, set()
+        self.accepted, self.room, self.commits = None, 0, 0
 
     def copy(self):
-        other = Store(self.units, self.half)
-        other.colls, other.free, other.tail = dict(self.colls), set(self.free), self.tail
+        other = copy.copy(self)
+        other.colls, other.free, other.slots = dict(self.colls), set(self.free), [*self.slots]
         return other
+
+    @property
+    def epoch(self):
+        return active(self.slots)[0]
+
+    def rows_units(self):
+        """How many units the record takes that sets each row. Without rows there is none."""
+        body = self.row_bytes + bits(set(range(2 * self.half + 2, self.units)) - self.free)
+        return units_in(24 + body) if body else 0
 
     def with_commit(self, it):
         """The store of a device with this transaction's record behind the others."""
         other = self.copy()
         other.put(it.coll, it.objects)
         other.free = self.free - set(it.taken) | set(it.released)
-        other.tail += it.record
+        other.row_bytes += it.longer
+        other.tail, other.number, other.commits = self.tail + it.record, self.number + 1, self.commits + 1
+        return other
+
+    def mounted(self, device):
+        """The store as a mount finds it on this device: of the other half it knows which units aren't zero."""
+        other = self.copy()
+        other.stale = device.stale
+        return other
+
+    def switched(self):
+        """The store of a device whose other half has the record of the rows, and is the active one."""
+        other, epoch = self.copy(), self.epoch + 1
+        other.slots[epoch % 2] = epoch, self.number
+        other.tail, other.stale = self.rows_units(), set(range(self.tail))
+        other.number += other.tail > 0
         return other
 
     def put(self, coll, objects):
@@ -187,19 +238,18 @@ class Store:
         return self.accept(coll, draft.objects)
 
     def accept(self, coll, objects):
-        """Gives a collection these objects, where the log has room for the difference of the rows. With None it goes."""
+        """Gives a collection these objects, where a half has room for the difference of the rows. With None it goes."""
         before, after = self.colls.get(coll), objects
         old, new = Rows(), Rows()
         old.add_other(coll, before, after)
         new.add_other(coll, after, before)
-        body = difference(old.rows, new.rows) + turned(old.units ^ new.units)
-        need, room = units_in(24 + body), self.half - self.tail
-        if room < need:
-            return f"E10 MetaFull need={need} room={room}"
-        self.tail += need
+        need = units_in(24 + difference(old.rows, new.rows) + bits(old.units ^ new.units))
+        if self.room < need:
+            return f"E10 MetaFull need={need} room={self.room}"
         self.free -= new.units - old.units
         self.put(coll, objects)
-        self.accepted = Transaction(coll, objects, sorted(new.units - old.units), sorted(old.units - new.units), need)
+        longer = set_bytes(new.rows) - set_bytes(old.rows)
+        self.accepted = Transaction(coll, objects, sorted(new.units - old.units), sorted(old.units - new.units), need, longer)
         return "ok"
 
     def getattr(self, coll, name, attr):
@@ -239,6 +289,11 @@ class Store:
                 lines += [f"header {hex_of(it.header)}"] if it.header else []
                 lines += [f"omap {escaped(key)} {hex_of(it.omap[key])}" for key in sorted(it.omap)]
         return [*lines, "end"]
+
+
+def active(slots):
+    """The slot that counts: that of the greatest epoch."""
+    return max(slot for slot in slots if slot)
 
 
 class Rows:
@@ -400,8 +455,13 @@ def without(values, keys):
 
 def difference(old, new):
     """The bytes of the operations that make rows of others: one for each that is new, has another value, or goes."""
-    made = sum(7 + len(key) + len(value) for key, value in new.items() if old.get(key) != value)
+    made = set_bytes({key: value for key, value in new.items() if old.get(key) != value})
     return made + sum(3 + len(key) for key in old if key not in new)
+
+
+def set_bytes(rows):
+    """The bytes of the operations that set these rows."""
+    return sum(7 + len(key) + len(value) for key, value in rows.items())
 
 
 def cleared(old, first, end):
@@ -414,8 +474,8 @@ def cleared(old, first, end):
     return pages
 
 
-def turned(units):
-    """The bytes of the operations that turn these units' bits in the bitmap."""
+def bits(units):
+    """The bytes of the operations that set the rows of the bitmap with these units, or turn the units' bits there."""
     return (7 + 5 + 16) * len({unit // ROW_UNITS for unit in units})
 
 
@@ -429,7 +489,7 @@ def sum_of(it):
 @dataclass
 class Batch:
     """The open batch: its transaction, whether its record is made, and of the pieces of that how many are given and written. Its flushes
-    aren't submitted (0), in flight (1) or have ended (2)."""
+    aren't submitted (0), in flight (1) or have ended (2). With the second one the device has had so many calls."""
 
     transaction: Transaction
     is_sealed: bool = False
@@ -437,34 +497,71 @@ class Batch:
     written: int = 0
     first: int = 0
     second: int = 0
+    calls: int = 0
 
     @property
     def pieces(self):
-        return (self.transaction.record + WRITE_UNITS - 1) // WRITE_UNITS
+        return pieces_of(self.transaction.record)
+
+
+@dataclass
+class Checkpoint:
+    """The open checkpoint: how many pieces it has, and how many of these are given and written. Its flush, the slot's write and the flush of
+    that are as those of a batch."""
+
+    pieces: int
+    given: int = 0
+    written: int = 0
+    flush: int = 0
+    slot: int = 0
+    slot_flush: int = 0
+
+
+def pieces_of(units):
+    return (units + WRITE_UNITS - 1) // WRITE_UNITS
 
 
 class Kernel:
     """The table of steps of docs/steps.md over a store, on a device that does each submission at once and gives the ends in order. It
-    keeps the stores of devices with each front of the commits, and of each commit its transaction, and how many flushes of the device had
-    been called when its second one had. A flush with no write since the last one isn't called."""
+    keeps the stores of devices with each front of the commits, and behind each switch; of each commit its transaction, and how many calls
+    the device had had with its second flush; and the calls, each with its job. A flush with no write since the last one isn't called."""
 
     def __init__(self, store):
-        self.store, self.commits, self.committed = store, [store.copy()], []
-        self.pending, self.flying, self.batch, self.applied = [], deque(), None, deque()
-        self.flushes, self.is_dirty = 0, False
+        self.store, self.states, self.committed = store.copy(), [store.copy()], []
+        self.states[0].commits = 0
+        self.pending, self.flying, self.batch, self.checkpoint, self.applied = [], deque(), None, None, deque()
+        self.reserved, self.events, self.calls, self.is_dirty = 0, 0, [], False
+
+    @property
+    def last(self):
+        """The store with all commits so far."""
+        return self.states[-1]
 
     def submit(self, client, line, command):
         """The reply to a command. A transaction that is accepted waits in the kernel, for its client."""
-        self.store.accepted = None
+        self.store.accepted, self.store.room = None, self.last.half - self.last.rows_units() - self.reserved
         reply = getattr(self.store, command[0])(*command[1:])
         if self.store.accepted:
             self.store.accepted.client, self.store.accepted.line = client, line
+            self.reserved += self.store.accepted.record
             self.pending.append(self.store.accepted)
         return reply
 
-    def call_flush(self):
-        self.flushes += self.is_dirty
+    def send(self, job, counted):
+        """Submits a write for a job, where its end is counted."""
+        self.calls.append(("pwrite64", f"{type(job).__name__} {counted}"))
+        self.is_dirty = True
+        self.flying.append((job, counted))
+        self.events += 1
+
+    def send_flush(self, job, counted):
+        """Submits a flush for a job, where it is in flight then."""
+        if self.is_dirty:
+            self.calls.append(("fdatasync", f"{type(job).__name__} {counted}"))
         self.is_dirty = False
+        setattr(job, counted, 1)
+        self.flying.append((job, counted))
+        self.events += 1
 
     def next_unsent(self):
         return next((it for it in self.pending if it.sent < it.writes), None)
@@ -480,62 +577,90 @@ class Kernel:
 
     def ready(self):
         """The steps that are ready, in the order of the table."""
-        batch, has_room = self.batch, len(self.flying) < DEPTH
+        batch, check, has_room = self.batch, self.checkpoint, len(self.flying) < DEPTH
         table = [
             (self.data, self.next_unsent() and has_room),
             (self.reap, self.flying),
-            (self.take, not batch and self.chosen()),
+            (self.take, not batch and not check and self.chosen()),
             (self.flush, batch and batch.first == 0 and has_room),
             (self.seal, batch and not batch.is_sealed),
             (self.record, batch and batch.first == 2 and batch.is_sealed and batch.given < batch.pieces and has_room),
             (self.sync, batch and batch.second == 0 and batch.is_sealed and batch.written == batch.pieces and has_room),
             (self.commit, batch and batch.second == 2),
             (self.finish, self.applied),
+            (self.check_write, check and check.given < check.pieces and has_room),
+            (self.check_flush, check and check.flush == 0 and check.written == check.pieces and has_room),
+            (self.slot_write, check and check.flush == 2 and check.slot == 0 and has_room),
+            (self.slot_flush, check and check.slot == 2 and check.slot_flush == 0 and has_room),
+            (self.switch, check and check.slot_flush == 2),
         ]
         return [step for step, is_ready in table if is_ready]
 
     def data(self):
         it = self.next_unsent()
         it.sent += 1
-        self.is_dirty = True
-        self.flying.append((it, "ended"))
+        self.send(it, "ended")
 
     def reap(self):
-        it, counted = self.flying.popleft()
-        setattr(it, counted, getattr(it, counted) + 1)
+        job, counted = self.flying.popleft()
+        setattr(job, counted, getattr(job, counted) + 1)
+        self.events += 1
 
     def take(self):
-        self.batch = Batch(self.chosen())
-        self.pending.remove(self.batch.transaction)
+        """Opens a batch where its record fits behind the tail, else a checkpoint, which takes nobody."""
+        it, last = self.chosen(), self.last
+        if last.tail + it.record <= last.half:
+            self.batch = Batch(it)
+            self.pending.remove(it)
+        else:
+            units = last.rows_units()
+            zeros = runs_of(sorted(unit for unit in last.stale if unit >= units))
+            self.checkpoint = Checkpoint(pieces_of(units) + len(zeros))
+            last.stale = last.stale | set(range(units))
 
     def flush(self):
-        self.batch.first = 1
-        self.call_flush()
-        self.flying.append((self.batch, "first"))
+        self.send_flush(self.batch, "first")
 
     def seal(self):
         self.batch.is_sealed = True
 
     def record(self):
         self.batch.given += 1
-        self.is_dirty = True
-        self.flying.append((self.batch, "written"))
+        self.send(self.batch, "written")
 
     def sync(self):
-        self.batch.second = 1
-        self.call_flush()
-        self.flying.append((self.batch, "second"))
+        self.send_flush(self.batch, "second")
+        self.batch.calls = len(self.calls)
 
     def commit(self):
         it = self.batch.transaction
         self.store.free |= set(it.released)
-        self.commits.append(self.commits[-1].with_commit(it))
-        self.committed.append((it, self.flushes))
+        self.reserved -= it.record
+        self.states.append(self.last.with_commit(it))
+        self.committed.append((it, self.batch.calls))
         self.applied.append(it)
         self.batch = None
 
     def finish(self):
         self.applied.popleft().client.waits_for -= 1
+
+    def check_write(self):
+        self.checkpoint.given += 1
+        self.send(self.checkpoint, "written")
+
+    def check_flush(self):
+        self.send_flush(self.checkpoint, "flush")
+
+    def slot_write(self):
+        self.checkpoint.slot = 1
+        self.send(self.checkpoint, "slot")
+
+    def slot_flush(self):
+        self.send_flush(self.checkpoint, "slot_flush")
+
+    def switch(self):
+        self.states.append(self.last.switched())
+        self.checkpoint = None
 
 
 class Client:
@@ -560,7 +685,7 @@ class Client:
 
 
 def run(store, scripts, seed):
-    """What is to be printed of a run of these scripts, one a client, and the kernel behind it. The store becomes that behind the run."""
+    """What is to be printed of a run of these scripts, one a client, and the kernel behind it."""
     kernel, clients, drawn = Kernel(store), [Client(script) for script in scripts], seed
     while choices := [partial(it.make, kernel) for it in clients if it.is_ready()] + kernel.ready():
         drawn = (6364136223846793005 * drawn + 1442695040888963407) % 2**64
@@ -568,11 +693,11 @@ def run(store, scripts, seed):
     replies = [(number, *reply) for number, client in enumerate(clients) for reply in client.replies]
     accepted = sum(reply == "ok" for _, _, reply in replies)
     refused = sum(reply.startswith("E") for _, _, reply in replies)
-    told = f"accepted={accepted} refused={refused} reads={len(replies) - accepted - refused} commits={len(kernel.commits) - 1}"
+    told = f"accepted={accepted} refused={refused} reads={len(replies) - accepted - refused} commits={len(kernel.committed)}"
     lines = [f"{number}:{line} {reply}" for number, line, reply in replies]
     for number, client in enumerate(clients):
         client.number = number
-    return [*lines, f"done {told} free={len(store.free)}"], kernel
+    return [*lines, f"done {told} free={len(kernel.store.free)}"], kernel
 
 
 # ---- the device
@@ -588,15 +713,19 @@ def expect(holds, what):
 
 
 class Device:
-    """What a device has, read by its formats: the units of its log's records, the rows that these make, and the objects that the rows show."""
+    """What a device has, read by its formats: its slots, the units of its log's records, the rows that these make, and the objects that the
+    rows show."""
 
     def __init__(self, path):
         with open(path, "rb") as it:
             self.bytes = it.read()
-        self.half, epoch, self.number = self.active_slot()
-        self.rows, self.tail, self.colls, self.owned, self.marked = {}, 0, {}, set(), set()
-        self.read_records(2 + self.half * (epoch % 2))
-        self.values = []
+        self.half = 0
+        self.slots = [self.slot(0), self.slot(1)]
+        expect(any(self.slots), "no slot is valid")
+        self.rows, self.tail, self.number = self.records(active(self.slots))
+        epoch = active(self.slots)[0]
+        self.behind, self.stale = self.not_zero(epoch) - set(range(self.tail)), self.not_zero(epoch + 1)
+        self.colls, self.owned, self.marked, self.values = {}, set(), set(), []
         for key in sorted(self.rows):
             self.read_row(key, self.rows[key])
         for key, value in self.values:
@@ -606,51 +735,39 @@ class Device:
     def at(self, unit, count=1):
         return self.bytes[UNIT * unit : UNIT * (unit + count)]
 
-    def active_slot(self):
-        found = []
-        for slot in (0, 1):
-            held = self.at(slot)
-            if held[:8] == b"BSTORE01" and checksum(held[:-4]) == struct.unpack("<I", held[-4:])[0]:
-                version, units, half, _, epoch, first = struct.unpack("<IIIIQQ", held[8:40])
-                expect(version == 1 and units * UNIT == len(self.bytes) and epoch % 2 == slot, f"slot {slot}")
-                expect(not any(held[40:-4]), f"slot {slot} has other bytes")
-                found.append((epoch, half, first))
-        expect(found, "no slot is valid")
-        epoch, half, first = max(found)
-        return half, epoch, first
+    def slot(self, at):
+        """A slot's epoch and first number, or None where it isn't valid."""
+        held = self.at(at)
+        if held[:8] != b"BSTORE01" or checksum(held[:-4]) != struct.unpack("<I", held[-4:])[0]:
+            return None
+        version, units, half, _, epoch, first = struct.unpack("<IIIIQQ", held[8:40])
+        expect(version == 1 and units * UNIT == len(self.bytes) and epoch % 2 == at and self.half in (0, half), f"slot {at}")
+        expect(not any(held[40:-4]), f"slot {at} has other bytes")
+        self.half = half
+        return epoch, first
 
-    def read_records(self, start):
-        while self.tail < self.half and self.at(start + self.tail)[:4] == b"BREC":
-            length, number, count, kept = struct.unpack("<IQII", self.at(start + self.tail)[4:24])
-            units = (24 + length + UNIT - 1) // UNIT
-            record = self.at(start + self.tail, units)
+    def first_unit(self, epoch):
+        return 2 + self.half * (epoch % 2)
+
+    def not_zero(self, epoch):
+        """Which units of the half of this epoch aren't zero."""
+        return {unit for unit in range(self.half) if self.at(self.first_unit(epoch) + unit) != bytes(UNIT)}
+
+    def records(self, slot):
+        """The rows that the records of a slot make, how many units these take, and the number that would be next."""
+        epoch, number = slot
+        start, rows, tail = self.first_unit(epoch), {}, 0
+        while tail < self.half and self.at(start + tail)[:4] == b"BREC":
+            length, found, count, kept = struct.unpack("<IQII", self.at(start + tail)[4:24])
+            units = units_in(24 + length)
+            record = self.at(start + tail, units)
             body = record[24 : 24 + length]
-            if number != self.number or self.tail + units > self.half or checksum(record[:20] + body) != kept:
-                return
+            if found != number or tail + units > self.half or checksum(record[:20] + body) != kept:
+                break
             expect(not any(record[24 + length :]), f"bytes behind record {number}")
-            expect(self.apply(body) == count, f"the operations of record {number}")
-            self.number, self.tail = number + 1, self.tail + units
-
-    def apply(self, body):
-        at, count = 0, 0
-        while at < len(body):
-            kind, length = struct.unpack_from("<BH", body, at)
-            key, at, count = body[at + 3 : at + 3 + length], at + 3 + length, count + 1
-            if kind == 2:
-                self.rows.pop(key, None)
-                continue
-            (length,) = struct.unpack_from("<I", body, at)
-            value, at = body[at + 4 : at + 4 + length], at + 4 + length
-            if kind == 3:
-                held = self.rows.get(key, b"")
-                width = max(len(held), len(value))
-                value = bytes(a ^ b for a, b in zip(held.ljust(width, b"\0"), value.ljust(width, b"\0")))
-            expect(kind in (1, 3), f"an operation of kind {kind}")
-            if kind == 3 and not any(value):
-                self.rows.pop(key, None)
-            else:
-                self.rows[key] = value
-        return count
+            expect(apply(rows, body) == count, f"the operations of record {number}")
+            number, tail = number + 1, tail + units
+        return rows, tail, number
 
     def read_row(self, key, value):
         if key[:1] == b"C":
@@ -699,8 +816,38 @@ class Device:
                 owner.pages[first + page] = unit + page, held
             at += 11 + 4 * count
 
-    def is_of(self, store):
-        return self.colls == store.colls and self.tail == store.tail
+    def other_records(self):
+        """The units that the records take of the slot that doesn't count, as far as they stand."""
+        slot = self.slots[1 - active(self.slots)[0] % 2]
+        return set(range(self.records(slot)[1])) if slot else set()
+
+    def differences(self, store):
+        """What isn't as this store has it. Of a stale unit anything may be left."""
+        parts = ["slots", "number", "tail", "colls"]
+        return [part for part in parts if getattr(self, part) != getattr(store, part)] + ["stale"] * (not self.stale <= store.stale)
+
+
+def apply(rows, body):
+    """Does the operations of a record's body to rows, and says how many there are."""
+    at, count = 0, 0
+    while at < len(body):
+        kind, length = struct.unpack_from("<BH", body, at)
+        key, at, count = body[at + 3 : at + 3 + length], at + 3 + length, count + 1
+        if kind == 2:
+            rows.pop(key, None)
+            continue
+        (length,) = struct.unpack_from("<I", body, at)
+        value, at = body[at + 4 : at + 4 + length], at + 4 + length
+        if kind == 3:
+            held = rows.get(key, b"")
+            width = max(len(held), len(value))
+            value = bytes(a ^ b for a, b in zip(held.ljust(width, b"\0"), value.ljust(width, b"\0")))
+        expect(kind in (1, 3), f"an operation of kind {kind}")
+        if kind == 3 and not any(value):
+            rows.pop(key, None)
+        else:
+            rows[key] = value
+    return count
 
 
 # ---- scripts
@@ -725,11 +872,11 @@ def drawn_data(dice, most):
     return f"fill:{dice.randrange(256):02x}:{length}"
 
 
-def drawn_value(dice):
-    """The word of a value, of which few are long and one in many is past the limit."""
-    form = dice.random()
-    if form < 0.1:
-        return f"fill:{dice.randrange(256):02x}:{dice.choice([3000, 5000, VALUE_LIMIT, VALUE_LIMIT + 1, 2097152])}"
+def drawn_value(dice, most):
+    """The word of a value, of which few are long, of less than so many pages, and one in many is past the limit."""
+    if dice.random() < 0.2:
+        length = min(dice.randrange(UNIT * most), VALUE_LIMIT)
+        return f"fill:{dice.randrange(256):02x}:{dice.choice([3000, 5000, length, length, length, VALUE_LIMIT, VALUE_LIMIT + 1, 2097152])}"
     return "hex:" + dice.randbytes(dice.choice([0, 1, 3, 30, 100])).hex()
 
 
@@ -761,15 +908,15 @@ def drawn_words(dice, kind, most):
     if kind == "read":
         offset = dice.choice([0, 1, UNIT - 1, UNIT, dice.randrange(40000), OBJECT_LIMIT])
         return offset, dice.choice([0, 1, 2, UNIT, 5000, dice.randrange(20000)])
-    return drawn_value_words(dice, kind)
+    return drawn_value_words(dice, kind, most)
 
 
-def drawn_value_words(dice, kind):
+def drawn_value_words(dice, kind, most):
     """The arguments of a command of values: keys, and values as words."""
     if kind == "setattr":
-        return drawn_key(dice), drawn_value(dice)
+        return drawn_key(dice), drawn_value(dice, most)
     if kind == "omapheader":
-        return (drawn_value(dice),)
+        return (drawn_value(dice, most),)
     if kind == "omaprmrange":
         return drawn_key(dice), drawn_key(dice)
     if kind in ("rmattr", "getattr", "omapget"):
@@ -778,7 +925,7 @@ def drawn_value_words(dice, kind):
     if kind == "omaprm":
         return tuple(drawn_key(dice) for _ in range(count))
     if kind == "omapset":
-        return tuple(word for _ in range(count) for word in (drawn_key(dice), drawn_value(dice)))
+        return tuple(word for _ in range(count) for word in (drawn_key(dice), drawn_value(dice, most)))
     return ()
 
 
@@ -834,12 +981,16 @@ def lines_of(dice, kind, coll, *words):
 
 
 def drawn_script(dice):
-    """The lines of a script, and its commands, each with its line: None for a `wait`."""
+    """The lines of a script, and its commands, each with its line: None for a `wait`. Half of them make the collections first, and a few
+    do nothing but make and take them, so that there may be no row. Some have many a `wait`, so that more finds room."""
     lines, commands = [], []
-    for _ in range(dice.choice([0, 5, 30, 120])):
+    making, pauses = dice.choice([0, 0, 0, 3, 3, 3, 120]), dice.choice([0.1, 0.1, 0.8])
+    for at in range(dice.choice([0, 5, 30, 120])):
         most = dice.choice([3, 12, 300])
         command = drawn_block(dice, min(most, 40)) if dice.random() < 0.25 else drawn_command(dice, most)
-        if dice.random() < 0.1:
+        if at < making:
+            command = "change", COLLS[at % 3], [("mkcoll" if at % 6 < 3 else "rmcoll",)]
+        if dice.random() < pauses:
             lines.append(dice.choice(["wait", "", "# a note"]))
             if lines[-1] == "wait":
                 commands.append((len(lines), None))
@@ -881,41 +1032,63 @@ def can_trace():
 
 
 def killed_run(dice, program, seed, names, wanted, kernel):
-    """Runs the scripts up to one of the run's calls, and returns the store that the device then has. Which calls there are is seen of a run
-    on a copy. The first ones may be those of the opening, which clears what the last kill left behind the records."""
+    """Runs the scripts up to one of the run's calls, and returns the store that the next mount finds. Which calls there are is seen of a run
+    on a copy. The first ones are those of the opening, which clears what the last kill left behind the records."""
     shutil.copy("device", "copy")
     calls, _ = traced(program, "step", "copy", "--seed", str(seed), *names)
-    kind = dice.choice(sorted(set(calls)))
-    last = dice.choice([at for at, call in enumerate(calls) if call == kind])
-    inject = f"inject={kind}:signal=KILL:when={calls[: last + 1].count(kind)}"
+    of_device = [call for call in calls if call != "write"]
+    opening = len(of_device) - len(kernel.calls)
+    expect(of_device[opening:] == [call for call, _ in kernel.calls], "the device has other calls than the model's")
+    jobs = iter(["opening"] * opening + [job for _, job in kernel.calls])
+    kinds = [call if call == "write" else next(jobs) for call in calls]
+    kind = dice.choice(sorted(set(kinds)))
+    last = dice.choice([at for at, it in enumerate(kinds) if it == kind])
+    inject = f"inject={calls[last]}:signal=KILL:when={calls[: last + 1].count(calls[last])}"
     made, ran = traced("-e", inject, program, "step", "device", "--seed", str(seed), *names)
     expect(ran.returncode == -9 and made[:last] == calls[:last], f"the run was killed at call {len(made)} and not at {last + 1}")
     text = "".join(f"{line}\n" for line in wanted)
     expect(text.startswith(ran.stdout), f"it printed {ran.stdout[-80:]!r}")
-    stable = calls[:last].count("fdatasync") - (calls.count("fdatasync") - kernel.flushes)
     said = {line.split()[0] for line in ran.stdout.splitlines() if line.endswith(" ok")}
-    acked = [flushes <= stable or f"{it.client.number}:{it.line}" in said for it, flushes in kernel.committed]
+    done = last - calls[:last].count("write") - opening
+    acked = [flushed <= done or f"{it.client.number}:{it.line}" in said for it, flushed in kernel.committed]
     left = Device("device")
-    front = next((number for number, store in enumerate(kernel.commits) if left.is_of(store)), None)
-    expect(front is not None, "the device of a run that was killed is that of no front of the commits")
-    expect(not any(acked[front:]), f"the device has {front} commits, and more were acknowledged")
+    store = next((it for it in kernel.states if not left.differences(it)), None)
+    expect(store, f"the device of a run that was killed at {kind} is that of no front of the commits")
+    expect(not any(acked[store.commits :]), f"the device has {store.commits} commits, and more were acknowledged")
     expect_same(printed(program, "fsck", "device"), ["findings 0"], "fsck")
-    return kernel.commits[front].copy()
+    return store.mounted(left)
 
 
-def whole_run(program, seed, names, wanted, store):
+def whole_run(program, seed, names, wanted, kernel):
+    """Runs the scripts to their end, and returns the store that the next mount finds."""
     expect_same(printed(program, "step", "device", "--seed", str(seed), *names), wanted, "step")
-    expect(Device("device").is_of(store), "the device has other objects or records")
+    left, store = Device("device"), kernel.last
+    expect(not left.differences(store), f"the device has other {left.differences(store)}")
+    expect(not left.behind, f"units behind the records aren't zero: {sorted(left.behind)[:5]}")
+    lost = store.stale - left.stale - left.other_records()
+    expect(not lost, f"units of the other half were cleared: {sorted(lost)[:5]}")
     expect_same(printed(program, "dump", "device"), store.dump(), "dump")
     expect_same(printed(program, "fsck", "device"), ["findings 0"], "fsck")
+    return store.mounted(left)
+
+
+def lay_stale(dice, units):
+    """What a device had before it was made: nothing, or in some units whole records, or noise."""
+    first = dice.choice([2, 2, dice.randrange(12)])
+    held = [bytes(UNIT), b"\xa5" * UNIT, None]
+    with open("device", "wb") as it:
+        for unit in range(dice.choice([0, units])):
+            it.write(dice.choice(held) or record_units(max(unit - first, 0), [set_op(b"C9.0_head", b"")]))
 
 
 def play(program, may_trace, seed):
-    """A round: a new store, and some runs on it."""
+    """A round: a new store, and some runs on it. How often the halves were switched."""
     dice = random.Random(seed)
-    half = dice.choice([8, 12, 40, 200])
+    half = dice.choice([8, 8, 8, 9, 12, 40, 100, 200])
     store = Store(2 * half + 2 + dice.choice([1, 2, 5, 20, 60, 300]), half)
+    lay_stale(dice, store.units)
     printed(program, "mkfs", "device", "--half", str(half), "--units", str(store.units))
+    store = store.mounted(Device("device"))
     for _ in range(dice.choice([1, 2, 3])):
         scripts = [drawn_script(dice) for _ in range(dice.choice([1, 1, 2, 3, dice.randrange(4, 9)]))]
         names = [f"script{number}" for number in range(len(scripts))]
@@ -924,10 +1097,11 @@ def play(program, may_trace, seed):
                 it.write("\n".join(lines) + dice.choice(["", "\n", "\n"]))
         drawn = dice.randrange(2**32)
         wanted, kernel = run(store, [commands for _, commands in scripts], drawn)
-        if dice.random() < 0.15 and may_trace:
+        if dice.random() < 0.2 and may_trace:
             store = killed_run(dice, program, drawn, names, wanted, kernel)
         else:
-            whole_run(program, drawn, names, wanted, store)
+            store = whole_run(program, drawn, names, wanted, kernel)
+    return store.epoch
 
 
 # ---- the model's own checks
@@ -1006,11 +1180,6 @@ VALUES_OF_ATTRS = [
 OF_ATTRS = ("0:1 ok, 0:2 ok, 0:3 ok, 0:4 E8 TooBig, 0:5 E4 NoObject, 0:6 E1 NoCollection, 0:7 E8 TooBig, 0:9 attr -, 0:10 ok, 0:11 ok, "
             "0:13 header 41, 0:14 ok, 0:15 ok, 0:17 E5 NoAttr, 0:18 header -, "
             "done accepted=7 refused=5 reads=3 commits=7 free=46")
-# The record of the pair has 24576 bytes, six units; with one more byte it takes seven.
-FULL_LOG = [["mkcoll 1.0_head", "touch 1.0_head o", "omapset 1.0_head o k fill:5a:24531", "wait", "touch 1.0_head p"]]
-OF_FULL_LOG = "0:1 ok, 0:2 ok, 0:3 ok, 0:5 E10 MetaFull need=1 room=0, done accepted=3 refused=1 reads=0 commits=3 free=46"
-OVERFULL_LOG = [["mkcoll 1.0_head", "touch 1.0_head o", "omapset 1.0_head o k fill:5a:24532"]]
-OF_OVERFULL_LOG = "0:1 ok, 0:2 ok, 0:3 E10 MetaFull need=7 room=6, done accepted=2 refused=1 reads=0 commits=2 free=46"
 EMPTY_AGAIN = [
     ["mkcoll 1.0_head", "touch 1.0_head o", "rmcoll 1.0_head", "remove 1.0_head o", "rmcoll 1.0_head", "touch 1.0_head o", "rmcoll 1.0_head"],
 ]
@@ -1062,46 +1231,107 @@ CHECKS = [(64, PAGES_OF_TWO, seed, NO_TOUCH) for seed in range(8)] + [
     *((64, PARTS_OF_PAGES, seed, OF_PARTS) for seed in range(4)),
     *((20, NO_UNIT, seed, OF_NO_UNIT) for seed in range(4)),
     *((64, *of, seed, told) for seed in range(2) for *of, told in (
-        (VALUES_OF_OMAPS, OF_OMAPS), (VALUES_OF_ATTRS, OF_ATTRS), (FULL_LOG, OF_FULL_LOG), (OVERFULL_LOG, OF_OVERFULL_LOG),
-        (EMPTY_AGAIN, OF_EMPTY_AGAIN), (PAGES_IN_ONE, OF_PAGES_IN_ONE), (VALUES_IN_ONE, OF_VALUES_IN_ONE), (MOST_IN_ONE, OF_MOST_IN_ONE))),
+        (VALUES_OF_OMAPS, OF_OMAPS), (VALUES_OF_ATTRS, OF_ATTRS), (EMPTY_AGAIN, OF_EMPTY_AGAIN), (PAGES_IN_ONE, OF_PAGES_IN_ONE),
+        (VALUES_IN_ONE, OF_VALUES_IN_ONE), (MOST_IN_ONE, OF_MOST_IN_ONE))),
     *((19, CLEARED_IN_ONE, seed, OF_CLEARED_IN_ONE) for seed in range(2)),
 ]
 
 
-def check(units, scripts, seed, wanted):
-    store = Store(units, 8)
+# Halves that are switched. Behind each line the client waits, so that neither replies nor events depend on the seed. A transaction has six
+# events, and two more where it puts a page; a checkpoint has six, and two more for each of its pieces.
+MKCOLL, TOUCH, CLEAR = "mkcoll 1.0_head", "touch 1.0_head o", "omapclear 1.0_head o"
+PAGES = [MKCOLL, *(f"write 1.0_head a 0 fill:{at % 256:02x}:4096" for at in range(1, 702))]
+COLL_AGAIN = [MKCOLL, "rmcoll 1.0_head"] * 20
+# The record of the first pair has 24576 bytes, just six units; with one byte more it takes seven. With the last pair the rows have 28648
+# bytes, which as one record take just seven.
+PAIR, LONGER_PAIR, LONGEST_PAIR = ([MKCOLL, TOUCH, f"omapset 1.0_head o k fill:5a:{size}"] for size in (24531, 24532, 28583))
+# These rows have 28654 bytes, and as one record they fill a half of eight units.
+FULL_ROWS = [*PAIR, "touch 1.0_head p", "omapset 1.0_head o l fill:5a:3900", "omapset 1.0_head o m fill:5a:60", "touch 1.0_head q"]
+# Two of the three units of the pair's record are zero but for a few bytes, and are stale all the same.
+ZEROS = [MKCOLL, TOUCH, "omapset 1.0_head o k fill:00:9000", CLEAR, *["touch 1.0_head p"] * 12]
+# With a page there are a shard of 40 bytes and a row of the bitmap of 28, and 133 bytes in all but the value. As one record the first rows take
+# just seven units, and the others eight.
+WITH_PAGE = [[*PAGES[:2], f"omapset 1.0_head a k fill:5a:{size}", "omapclear 1.0_head a"] for size in (28515, 28516)]
+# A half that is left with two units of records has these two stale, and not all that were stale before: the last record covers them.
+TWO_STALE = [MKCOLL, *[TOUCH] * 8, LONGER_PAIR[2], "touch 1.0_head p"]
+# The units of a half, what each byte was before, the lines, how many of the last ones find no room, the free units, the events, and of each
+# slot the epoch and the first number.
+SWITCHES = [
+    (8, 0, PAGES[:41], 0, 45, 374, [(4, 32), (5, 40)]),
+    (9, 0, PAGES[:41], 0, 43, 364, [(4, 36), (3, 27)]),
+    (8, 0, PAGES, 0, 45, 6612, [(100, 800), (99, 792)]),
+    (8, 0, COLL_AGAIN, 0, 46, 270, [(4, 32), (3, 24)]),
+    (9, 0, COLL_AGAIN, 0, 44, 278, [(4, 36), (3, 27)]),
+    (8, 0, [*PAIR, "touch 1.0_head p"], 0, 46, 32, [(0, 0), (1, 3)]),
+    (8, 0, [*LONGER_PAIR, "touch 1.0_head p"], 0, 46, 40, [(2, 4), (1, 2)]),
+    (8, 0, [*LONGEST_PAIR, CLEAR], 0, 46, 40, [(2, 4), (1, 2)]),
+    (8, 0, [*FULL_ROWS, CLEAR, "remove 1.0_head o"], 2, 46, 80, [(4, 9), (3, 7)]),
+    (8, 0, WITH_PAGE[0], 0, 45, 42, [(2, 4), (1, 2)]),
+    (8, 0, WITH_PAGE[1], 1, 45, 28, [(0, 0), (1, 2)]),
+    (8, 0, ZEROS, 0, 46, 114, [(2, 14), (1, 6)]),
+    (8, 0, TWO_STALE, 0, 46, 92, [(2, 10), (3, 12)]),
+    (8, 0, PAGES[:17], 0, 45, 152, [(2, 16), (1, 8)]),
+    (8, 0xA5, PAGES[:17], 0, 45, 154, [(2, 16), (1, 8)]),
+]
+
+
+def told_of(lines, refused, free):
+    """What is printed of so many lines with a `wait` behind each, of which the last ones find no room."""
+    accepted = lines - refused
+    replies = ["ok"] * accepted + ["E10 MetaFull need=1 room=0"] * refused
+    told = [f"0:{2 * at + 1} {reply}" for at, reply in enumerate(replies)]
+    return ", ".join([*told, f"done accepted={accepted} refused={refused} reads=0 commits={accepted} free={free}"])
+
+
+CHECKS += [
+    (64, [[it for line in lines for it in (line, "wait")]], 1, told_of(len(lines), refused, free), half, held, events, slots)
+    for half, held, lines, refused, free, events, slots in SWITCHES
+]
+
+
+def check(units, scripts, seed, wanted, half=8, held=0, events=None, slots=None):
+    store = Store(units, half)
+    store.stale = set(range(half)) if held else set()
     found, kernel = run(store, [read_script(script) for script in scripts], seed)
     expect_same(found, wanted.split(", "), f"seed {seed}")
-    last = kernel.commits[-1]
-    expect(last.colls == store.colls and last.free == store.free, f"seed {seed}: the last commit leaves another store")
+    last, after = kernel.last, kernel.store
+    expect(last.colls == after.colls and last.free == after.free, f"seed {seed}: the last commit leaves another store")
+    expect(events in (None, kernel.events), f"there are {kernel.events} events, not {events}")
+    expect(slots in (None, last.slots), f"the slots are {last.slots}, not {slots}")
 
 
-def check_program(program, units, scripts, seed, wanted):
-    """The same of the program, on a new store."""
+def check_program(program, units, scripts, seed, wanted, half=8, held=0, _events=None, slots=None):
+    """The same of the program, on a new store. Of its events nothing is seen here."""
     names = [f"script{number}" for number in range(len(scripts))]
     for name, lines in zip(names, scripts):
         with open(name, "w", encoding="ascii") as it:
             it.writelines(f"{line}\n" for line in lines)
-    printed(program, "mkfs", "device", "--half", "8", "--units", str(units))
+    with open("device", "wb") as it:
+        it.write(bytes([held]) * UNIT * units)
+    printed(program, "mkfs", "device", "--half", str(half), "--units", str(units))
     expect_same(printed(program, "step", "device", "--seed", str(seed), *names), wanted.split(", "), f"seed {seed}")
+    found = Device("device").slots
+    expect(slots in (None, found), f"the slots are {found}, not {slots}")
 
 
 def all_pass(tries):
-    """Makes these tries, each with what it is called, and says which fail and how many. Whether none does."""
-    failed = 0
+    """Makes these tries, each with what it is called, and prints which fail. How many pass and fail, in words; whether none fails; and the sum
+    of what they gave."""
+    failed, given = 0, 0
     for called, attempt in tries:
         try:
-            attempt()
+            given += attempt() or 0
         except BadDevice as why:
             failed += 1
             print(f"FAILED  {called}: {why}")
-    print(f"{len(tries) - failed} passed, {failed} failed")
-    return failed == 0
+    return f"{len(tries) - failed} passed, {failed} failed", failed == 0, given
 
 
 def main():
     if sys.argv[1:] == ["--self-test"]:
-        return 0 if all_pass([("the model's own checks", partial(check, *it)) for it in CHECKS]) else 1
+        told, passed, _ = all_pass([("the model's own checks", partial(check, *it)) for it in CHECKS])
+        print(told)
+        return 0 if passed else 1
     rounds, seed = (int(sys.argv[at]) if len(sys.argv) > at else value for at, value in ((1, 120), (2, 1)))
     top = os.path.dirname(os.path.dirname(os.path.abspath(__file__)))
     program = os.path.abspath(sys.argv[3]) if len(sys.argv) > 3 else f"{top}/crates/bstore/out/bstore"
@@ -1114,9 +1344,10 @@ def main():
     tries += [(f"the model, round of seed {seed + number}", partial(play, program, may_trace, seed + number)) for number in range(rounds)]
     with tempfile.TemporaryDirectory() as room:
         os.chdir(room)
-        passed = all_pass(tries)
+        told, passed, switches = all_pass(tries)
         os.chdir(top)
-    return 0 if passed else 1
+    print(f"{told}, {switches} switches of halves in the rounds" + ("" if switches else ", where some must be"))
+    return 0 if passed and switches else 1
 
 
 if __name__ == "__main__":

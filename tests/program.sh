@@ -708,7 +708,8 @@ says 'step: three clients, by another seed' ended 0 "${clients[@]}" '2:1 ok' 'do
 run step CLIENTS --seed 1 $(printf 'empty %.0s' {1..64})
 says 'step: 64 clients' ended 0 'done accepted=0 refused=0 reads=0 commits=0 free=44'
 
-# Each refusal: a full store, and a full log.
+# Each refusal: a full store, and a log that is full of what isn't committed. By this seed none is committed before
+# the ninth comes.
 run mkfs SMALL --half 8 --units 19
 printf '# a store with one data unit\nmkcoll 1.0_head\nmkcoll 1.0_head\nwrite 2.0_head a 0 fill:41:4096\nwrite 1.0_head a 0 fill:41:4096\n\nwrite 1.0_head b 0 fill:42:4096\n' >full
 run step SMALL --seed 5 full
@@ -748,6 +749,147 @@ says 'step: a full output: the same store' cmp -s OUT BEFORE
 status=$?
 says 'step: 65 MiB in an address space of 29 MiB' is_one_of 0
 says 'step: its last line' test "$(tail -n 1 output)" = 'done accepted=66 refused=0 reads=0 commits=66 free=510'
+
+# ---- the halves of the log change places
+
+# slots FILE: the epoch and the first number of slots 0 and 1.
+slots() {
+    echo $(od -An -tu8 -j 24 -N 16 "$1") $(od -An -tu8 -j 4120 -N 16 "$1")
+}
+
+# pages FIRST LAST: a script of so many pages of `a`, each waited for. It makes the collection, where the first is number 1.
+pages() {
+    [ "$1" != 1 ] || printf 'mkcoll 1.0_head\nwait\n'
+    seq -f 'write 1.0_head a 0 fill:%02.0f:4096' "$1" "$2" | sed 's/fill:[0-9]*\([0-9][0-9]\):/fill:\1:/; a wait'
+}
+
+# Eight transactions go into the first half, and seven behind the rows of each later one. So 72 take ten switches, and each 70 more ten more.
+run mkfs SWITCHED "${small[@]}"
+switched=yes
+for ((i = 1; i <= 10; i++)); do
+    pages $((i == 1 ? 1 : 70 * i - 68)) $((70 * i + 1)) >seventy
+    run step SWITCHED --seed "$i" seventy
+    accepted=$((i == 1 ? 72 : 70))
+    [ "$status" = 0 ] && [ "$(tail -n 1 output)" = "done accepted=$accepted refused=0 reads=0 commits=$accepted free=45" ] || switched=no
+    [ "$(slots SWITCHED)" = "$((10 * i)) $((80 * i)) $((10 * i - 1)) $((80 * i - 8))" ] || switched=no
+done
+says 'switches: a hundred, and a mount behind each tenth' test "$switched" = yes
+run fsck SWITCHED
+says 'switches: nothing is found' ended 0 'findings 0'
+run dump SWITCHED
+says 'switches: the last page is there' ended 0 'coll 1.0_head' 'object a size 4096 crc 42186b7f' 'end'
+
+# Rows that fill a half leave no room for any change, also once the store is opened again, and are read. The record of the second value has
+# 4096 bytes, and the rows have 28692 as one record then: eight units.
+printf '%s\n' 'mkcoll 1.0_head' 'touch 1.0_head o' wait 'omapset 1.0_head o k fill:5a:24531' wait 'omapset 1.0_head o l fill:5b:4051' wait \
+    'omapclear 1.0_head o' 'remove 1.0_head o' >rows
+run mkfs ROWS "${small[@]}"
+run step ROWS --seed 1 rows
+says 'switches: rows that fill a half' ended 0 '0:1 ok' '0:2 ok' '0:4 ok' '0:6 ok' '0:8 E10 MetaFull need=1 room=0' \
+    '0:9 E10 MetaFull need=1 room=0' 'done accepted=4 refused=2 reads=0 commits=4 free=46'
+printf 'touch 1.0_head o\nstat 1.0_head o\n' >rows
+run step ROWS --seed 1 rows
+says 'switches: they still do' ended 0 '0:1 E10 MetaFull need=1 room=0' '0:2 size 0' 'done accepted=0 refused=1 reads=1 commits=0 free=46'
+
+# Forged stores. Slot 1 has the parity of the other one; it is of a half without records; it is noise, and the half too; slot 0 has the
+# first epoch that is worn out.
+# forge NAME UNIT EPOCH FIRST: T with another slot.
+forge() {
+    cp T "$1"
+    python3 "$top/tests/log_record.py" slot 64 8 "$3" "$4" | dd of="$1" bs=4096 seek="$2" conv=notrunc status=none
+}
+
+forge FORGED 1 2 40
+run dump FORGED
+says 'forged: two slots of one parity' ended 0 'coll 1.0_head' 'object a size 4096 crc 37f18c49' 'end'
+forge FORGED 1 1 40
+run dump FORGED
+says 'forged: a slot whose half has no record' ended 0 'end'
+run step FORGED --seed 1 script
+says 'forged: a slot whose half has no record: it is written' ended 0 '0:1 ok' '0:2 ok' 'done accepted=2 refused=0 reads=0 commits=2 free=45'
+python3 "$top/tests/log_record.py" 40 01090043312e305f6865616400000000 >wanted_record
+unit 10 FORGED >found
+says 'forged: a slot whose half has no record: its number' cmp -s found wanted_record
+forge FORGED 0 2305843009213693952 40
+cp FORGED WORN
+run step FORGED --seed 1 script
+says 'forged: a worn out epoch' ended 4 'mount WornOut' 'stopped 4'
+says 'forged: a worn out epoch: it is left as it was' cmp -s FORGED WORN
+cp T FORGED
+python3 -c 'import random, sys; sys.stdout.buffer.write(random.Random(1).randbytes(9 * 4096))' >noise
+dd if=noise of=FORGED bs=4096 seek=1 count=1 conv=notrunc status=none
+dd if=noise of=FORGED bs=4096 skip=1 seek=10 conv=notrunc status=none
+run dump FORGED
+says 'forged: noise' ended 0 'coll 1.0_head' 'object a size 4096 crc 37f18c49' 'end'
+pages 2 8 >seven
+run step FORGED --seed 1 seven
+says 'forged: noise: a switch' test "$status:$(slots FORGED)" = '0:0 0 1 8'
+run fsck FORGED
+says 'forged: noise: nothing is found' ended 0 'findings 0'
+
+# A store whose rows are seven units of eight, so that each transaction comes behind a switch, is killed 200 times. Each transaction puts its
+# number into the page and into an attribute of an object; no number comes twice. Each time the store has both of one number: that which it
+# had, or one of the run. The moments are drawn from the time that such a run takes as a whole. Says how many numbers it had.
+cat >kills.py <<'END'
+import random
+import subprocess
+import sys
+import time
+
+program, tests = sys.argv[1:]
+sys.path.insert(0, tests)
+sys.dont_write_bytecode = True
+from log_record import crc32c
+
+EACH = 20
+
+
+def block(number):
+    return f"begin\nwrite 1.0_head o 0 fill:{number % 251:02x}:4096\nsetattr 1.0_head o n hex:{number:06x}\nend\nwait\n"
+
+
+def found():
+    dumped = subprocess.run([program, "dump", "SEVEN"], capture_output=True, check=True).stdout.decode()
+    number = int(dumped.split("attr n ")[1][:6], 16)
+    page = crc32c(bytes([number % 251]) * 4096)
+    assert dumped == f"coll 1.0_head\nobject o size 4096 crc {page:08x}\nattr n {number:06x}\nomap k {'5a' * 24531}\nend\n", dumped[:200]
+    return number
+
+
+def begun(turn):
+    with open("turn", "w", encoding="ascii") as script:
+        script.writelines(block(EACH * turn + at) for at in range(EACH))
+    return subprocess.Popen([program, "step", "SEVEN", "--seed", str(turn), "turn"], stdin=subprocess.DEVNULL, stdout=subprocess.DEVNULL)
+
+
+began = time.monotonic()
+assert begun(1).wait() == 0
+whole = time.monotonic() - began
+last = found()
+assert last == 2 * EACH - 1
+draws = random.Random(7)
+seen = set()
+for turn in range(2, 202):
+    ran = begun(turn)
+    time.sleep(draws.uniform(0, whole))
+    ran.kill()
+    ran.wait()
+    number = found()
+    assert number == last or EACH * turn <= number < EACH * (turn + 1), (turn, last, number)
+    last = number
+    seen.add(number)
+print(len(seen))
+END
+run mkfs SEVEN --half 8 --units 24
+printf '%s\n' 'mkcoll 1.0_head' 'touch 1.0_head o' wait 'omapset 1.0_head o k fill:5a:24531' wait begin 'write 1.0_head o 0 fill:00:4096' \
+    'setattr 1.0_head o n hex:000000' end >seven
+run step SEVEN --seed 1 seven
+python3 kills.py "$program" "$top/tests" >seen 2>complaints
+status=$?
+says 'switches: 200 runs that were killed' test "$status" = 0
+says 'switches: many had begun' test "$(cat seen)" -ge 20
+run fsck SEVEN
+says 'switches: nothing is found once they were killed' ended 0 'findings 0'
 
 # ---- an output that doesn't block
 

@@ -198,7 +198,7 @@ def closure(roots):
     return list(seen.values())
 
 
-FUNCTION = re.compile(r"^([ ]*)(pub )?(?:const )?fn [a-z_0-9]+.*?^\1(?:\{\}?$|.*;$)", re.MULTILINE | re.DOTALL)
+FUNCTION = re.compile(r"^([ ]*)(pub )?(?:const )?fn [a-z_0-9]+.*?^\1(?:\{\}?$|[^\n]*;$)", re.MULTILINE | re.DOTALL)
 
 
 def public_clauses(text):

@@ -1,6 +1,6 @@
 -- Each call of the kernel keeps what is known of the book, and so does a run: by what calls make of rows and book.
 use Rattle.std.proofs.Common.{◌≡◌, inl, inr, ◌+◌, ◌<◌, ◌++◌, length, List, [], ◌∷◌, ℕ, Option, Some, None, refl, sym, ap, subst, ◌∙◌, arith, map}
-use Rattle.run_facts.proofs.Common.{option_map_or, Ticket, Disk, Objects, Change, PlansKeep, IsKnown, Context, Ascends}
+use Rattle.run_facts.proofs.Common.{option_map_or, Ticket, Disk, Objects, Change, PlansKeep, IsKnown, Ascends}
 use Rattle.std.proofs.lemmas.List.{append_cancel_left}
 use Rattle.object_model.specs.declared.command.Command.TheVariants as ask
 use Rattle.read_facts.specs.Prelude.{IsLegalButBytes}
@@ -9,7 +9,7 @@ use Rattle.store_steps.specs.Prelude.{Batch, State, DoesTake, check_begun, switc
 use Rattle.store_steps.specs.RowsGo as rows
 use Rattle.store_steps.specs.BookGoes as book
 use Rattle.run_facts.specs.Prelude.{IsKept}
-use Rattle.run_facts.proofs.Prelude.{ready_by_table, take_none, finish_ready, intents_both, IsFirst, chosen_first, was_up, GoesDown, down_call, footprint_of, kept_call}
+use Rattle.run_facts.proofs.Prelude.{ready_by_table, take_none, finish_ready, intents_both, was_up, GoesDown, down_call, footprint_of, kept_call}
 use Rattle.book_facts.specs.Prelude.{KnownOfBook, IsInOrder}
 use Rattle.book_facts.proofs.Books.{KeepBook, batch_of, book_stays, book_takes, book_commits, book_finishes, known_legal}
 use Rattle.book_facts.proofs.Order.{order_stays, order_takes, order_commits, order_finishes, order_accepts, order_enters}
@@ -46,7 +46,7 @@ record IsBookFact (K : State → Type 0) : Type 0 where
   accepts : (s : State) (d : Disk) (s' : State) (client line : ℕ) (change : Change) → PlansKeep → IsKept s d → IsKnown change.ops
       → Accepts client line change s d s' → K s → K s'
   replies : (s : State) (d : Disk) (s' : State) → Replies s d s' → K s → K s'
-  takes : (s : State) (x : Context) → s.batch ≡ None → IsFirst [] x s.pending → Ascends (map (λ z. z.place) s.pending) → K s → K (taken_up x s)
+  takes : (s : State) → s.batch ≡ None → Ascends (map (λ z. z.place) s.pending) → K s → K (taken_up s)
   commits : (s : State) (b : Batch) → K s → K (committed_batch b s)
   finishes : (s : State) → s.acked < length s.book.commits → K s → K (finished s)
 
@@ -70,8 +70,7 @@ module _ (K : State → Type 0) (fact : IsBookFact K) where
       where
         of_take : DoesTake s d s' d' → K s'
         of_take (inl batch) = subst K (sym batch.after)
-            (fact.takes s batch.context (take_none s d.depth (ready_by_table s d.depth step.Take up caused.ready)).0
-            (chosen_first [] s.pending batch.context batch.is_chosen) (kept.up up).flights.places.ascend known)
+            (fact.takes s (take_none s d.depth (ready_by_table s d.depth step.Take up caused.ready)).0 (kept.up up).flights.places.ascend known)
         of_take (inr check) = subst K (sym check.after) (rest_stays (check_begun s) refl refl refl refl)
     parts_go t events (rows.switches number limits is) (book.same same) caused = subst K (sym caused.does.after) (rest_stays (switched s) refl refl refl refl)
     parts_go t events (rows.joins x is) (book.enters e entered) caused =
@@ -111,7 +110,7 @@ book_fact opening = record {
   accepts = λ s d s' client line change plans kept may does known. subst (KnownOfBook opening) (sym does.after)
       (book_accepts opening s client line change does.plan does.not_refused (known_plan plans s d client line change s' kept may does) known);
   replies = book_replies opening;
-  takes = λ s x none at places known. book_takes opening s x at none places known;
+  takes = book_takes opening;
   commits = book_commits opening;
   finishes = book_finishes opening;
 }

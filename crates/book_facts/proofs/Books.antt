@@ -1,15 +1,15 @@
 -- How each call keeps what is known of the book.
 use Rattle.std.proofs.Common.{◌≡◌, ℕ, ◌+◌, ◌-◌, ◌<◌, ◌≤◌, List, [], ◌∷◌, ◌++◌, length, drop, map}
-use Rattle.std.proofs.Common.{Option, None, refl, sym, ap, subst, ◌∙◌, length-append, arith}
+use Rattle.std.proofs.Common.{Option, None, refl, sym, ap, subst, ◌∙◌, append-nil, append_assoc, length-append, arith}
 use Rattle.run_facts.proofs.Common.{IsDistinct, AllByRecursion, option_map_or, Commit, Objects, change_at, Rows, Space, Context, Ascends, Entry}
 use Rattle.std.specs.Prelude.{is_some, IsSome, IfSome, nat_eq}
-use Rattle.std.proofs.lemmas.List.{map-append, drop_at, drop_all, length-map}
+use Rattle.std.proofs.lemmas.List.{map-append, drop-append-le, drop_all, length-map}
 use Rattle.object_model.specs.declared.book.Book.{Book}
 use Rattle.object_model.specs.Prelude.{AreCountsWithin, acked_count}
 use Rattle.read_facts.specs.Prelude.{IsLegalButBytes}
 use Rattle.store_image.specs.Prelude.{IsShape}
-use Rattle.store_steps.specs.Prelude.{Batch, State, without_context, Found, opened, commit_of, taken_up, acknowledged, finished, committed_batch, applied_count, Intent, intent_of, intents, BookPart, book_part}
-use Rattle.run_facts.proofs.Prelude.{IsFirst, without_in, all_right, acknowledged_length, intents_both}
+use Rattle.store_steps.specs.Prelude.{Batch, State, choice, left_by, most_grouped, Found, opened, commit_of, taken_up, acknowledged, finished, committed_batch, applied_count, Intent, intent_of, intents, BookPart, book_part}
+use Rattle.run_facts.proofs.Prelude.{IsFirst, ArePicked, picked, part_taken, all_left, all_right, all_join, acknowledged_length, intents_both}
 use Rattle.book_facts.specs.Prelude.{commit_places, IsOfEntry, AreCommits, IsBookKnown, KnownOfBook, AreQueued}
 use Rattle.book_facts.proofs.Entries.{counts_more}
 use Rattle.book_facts.proofs.Commits.{all_push, acked_push, by_now_more, by_now_acknowledged, acked_acknowledged}
@@ -74,11 +74,70 @@ book_stays opening s s' keep known =
 
 -- ---- a batch is opened
 
--- what holds of all that wait holds of the one that is taken and of the others
-pub all_taken : (P : Intent → Type 0) (front : List Context) (x : Context) (back : List Context) → AllByRecursion P (intents (front ++ x ∷ back))
+-- one that waits has its commit, and is in the batch
+abbrev pub with_taken : Context → BookPart → BookPart
+with_taken x p = record p { book = record p.book { commits = p.book.commits ++ commit_of x ∷ [] }; batch = p.batch ++ intent_of x ∷ [] }
+
+abbrev pub with_all : List Context → BookPart → BookPart
+with_all [] p = p
+with_all (x ∷ xs) p = with_all xs (with_taken x p)
+
+-- of all of them
+with_more : (xs : List Context) (p : BookPart)
+    → with_all xs p ≡ record p { book = record p.book { commits = p.book.commits ++ map commit_of xs }; batch = p.batch ++ intents xs }
+with_more [] p = ap (λ (cs : List Commit). record p { book = record p.book { commits = cs } }) (sym (append-nil p.book.commits))
+    ∙ ap (λ (is : List Intent). record p { book = record p.book { commits = p.book.commits ++ [] }; batch = is }) (sym (append-nil p.batch))
+with_more (x ∷ xs) p = with_more xs (with_taken x p)
+    ∙ ap (λ (cs : List Commit). record p { book = record p.book { commits = cs }; batch = (p.batch ++ intent_of x ∷ []) ++ intents xs })
+    (append_assoc p.book.commits (commit_of x ∷ []) (map commit_of xs))
+    ∙ ap (λ (is : List Intent). record p { book = record p.book { commits = p.book.commits ++ map commit_of (x ∷ xs) }; batch = is })
+    (append_assoc p.batch (intent_of x ∷ []) (intents xs))
+
+taken_part : (s : State) → s.batch ≡ None → with_all (choice most_grouped s.pending) (book_part s) ≡ book_part (taken_up s)
+taken_part s none =
+    let xs : List Context = choice most_grouped s.pending in
+    with_more xs (book_part s)
+    ∙ ap (λ (o : Option Batch). record (book_part s) {
+      book = record s.book { commits = s.book.commits ++ map commit_of xs };
+      batch = intents (option_map_or (λ (b : Batch). b.contexts) o []) ++ intents xs;
+    }) none
+    ∙ sym (part_taken s none)
+
+-- A fact of the book and of what waits is kept where the one that comes next among these is taken, and so wherever a batch is opened.
+abbrev pub IsKeptByNext : (BookPart → List Intent → Type 0) → Type 0
+IsKeptByNext K = (p : BookPart) (x : Context) (xs : List Context) (at : IsFirst [] x xs) → K p (intents (at.front ++ x ∷ at.back))
+    → K (with_taken x p) (intents (at.front ++ at.back))
+
+pub kept_by_all : (K : BookPart → List Intent → Type 0) → IsKeptByNext K → (p : BookPart) (xs ys left : List Context) → ArePicked xs ys left → K p (intents xs)
+    → K (with_all ys p) (intents left)
+kept_by_all K next p xs [] left are known = subst (λ (zs : List Context). K p (intents zs)) (sym are) known
+kept_by_all K next p xs (y ∷ ys) left (at, are) known =
+    kept_by_all K next (with_taken y p) (at.front ++ at.back) ys left are
+    (next p y xs at (subst (λ (zs : List Context). K p (intents zs)) at.is known))
+
+pub kept_by_take : (K : BookPart → List Intent → Type 0) → IsKeptByNext K → (s : State) → s.batch ≡ None → Ascends (map (λ z. z.place) s.pending)
+    → K (book_part s) (intents s.pending) → (let t : State = taken_up s in K (book_part t) (intents t.pending))
+kept_by_take K next s none up known =
+    let ys : List Context = choice most_grouped s.pending in
+    let left : List Context = left_by most_grouped s.pending in
+    subst (λ (p : BookPart). K p (intents left)) (taken_part s none)
+    (kept_by_all K next (book_part s) s.pending ys left (picked most_grouped s.pending up) known)
+
+-- what holds of the batch and of all that wait holds of the one that is taken, and of the others
+one_of : (P : Intent → Type 0) (front : List Context) (x : Context) (back : List Context) → AllByRecursion P (intents (front ++ x ∷ back))
     → P (intent_of x) × AllByRecursion P (intents (front ++ back))
-all_taken P [] x back all = all
-all_taken P (y ∷ front) x back all = let rest = all_taken P front x back all.1 in (rest.0, (all.0, rest.1))
+one_of P [] x back all = all
+one_of P (y ∷ front) x back all = let rest = one_of P front x back all.1 in (rest.0, (all.0, rest.1))
+
+pub all_taken : (P : Intent → Type 0) (batch : List Intent) (front : List Context) (x : Context) (back : List Context)
+    → AllByRecursion P (batch ++ intents (front ++ x ∷ back))
+    → P (intent_of x) × AllByRecursion P ((batch ++ intent_of x ∷ []) ++ intents (front ++ back))
+all_taken P batch front x back all =
+    let both = one_of P front x back (all_right P batch (intents (front ++ x ∷ back)) all) in (
+      both.0,
+      all_join P (batch ++ intent_of x ∷ []) (intents (front ++ back))
+          (all_push P batch (intent_of x) (all_left P batch (intents (front ++ x ∷ back)) all) both.0) both.1,
+    )
 
 -- the queues of collections, as contexts wait
 pub queues_taken : (es : List Entry) (commits : List Commit) (x : Context) (xs : List Context) (at : IsFirst [] x xs) → IsOfEntry es (intent_of x)
@@ -89,50 +148,46 @@ queues_taken es commits x xs at is queued =
     (queued_taken es commits (commit_of x) (intents at.front) (intent_of x) (intents at.back) refl is at.first
     (subst (AreQueued (record { entries = es; commits = commits })) (intents_both at.front (x ∷ at.back)) queued))
 
--- those that wait then
-pub waiting_then : (s : State) (x : Context) (at : IsFirst [] x s.pending) → Ascends (map (λ z. z.place) s.pending)
-    → without_context x.place s.pending ≡ at.front ++ at.back
-waiting_then s x at places = without_in at.front x at.back s.pending at.is places
+-- no more are applied than there are commits
+abbrev IsKnownWithin : Objects → ℕ → Rows → BookPart → List Intent → Type 0
+IsKnownWithin opening events submitted p waiting = (p.applied ≤ length p.book.commits) × IsBookKnown opening events submitted p waiting
 
-module _ (opening : Objects) (s : State) (x : Context) (at : IsFirst [] x s.pending) where
-  -- the state before it, without a batch
-  abbrev waiting : State
-  waiting = record s { pending = at.front ++ x ∷ at.back; batch = None }
+known_next : (opening : Objects) (events : ℕ) (submitted : Rows) → IsKeptByNext (IsKnownWithin opening events submitted)
+known_next opening events submitted p x xs at (within, known) = (
+  later p.applied (length p.book.commits) (length (p.book.commits ++ commit_of x ∷ [])) within (length-append p.book.commits (commit_of x ∷ [])),
+  record {
+    answers = known.answers;
+    counts = known.counts;
+    commits = record {
+      of_accepted =
+          all_push (λ c. IsSome (change_at p.book.entries c.place)) p.book.commits (commit_of x) known.commits.of_accepted
+          (ap is_some (both.0).accepted);
+      acked_first = acked_push 0 p.book.commits (commit_of x) refl known.commits.acked_first;
+      counted = known.commits.counted ∙ sym (count_push p.book.commits (commit_of x) refl);
+      by_now = all_push (λ c. IfSome c.acked_at (λ a. a ≤ events)) p.book.commits (commit_of x) known.commits.by_now tt;
+    };
+    queued = queues_taken p.book.entries p.book.commits x xs at both.0 known.queued;
+    contexts = both.1;
+    last_committed =
+        ap (drop p.applied) (map-append (λ (c : Commit). c.place) p.book.commits (commit_of x ∷ []))
+        ∙ drop-append-le p.applied (commit_places p.book.commits) (x.place ∷ [])
+        (subst (λ (n : ℕ). p.applied ≤ n) (sym (length-map p.book.commits (λ (c : Commit). c.place))) within)
+        ∙ ap (λ (ps : List ℕ). ps ++ x.place ∷ []) known.last_committed
+        ∙ sym (map-append (λ (i : Intent). i.place) p.batch (intent_of x ∷ []));
+    shape = known.shape;
+  },
+)
+  where
+    both : IsOfEntry p.book.entries (intent_of x) × AllByRecursion (IsOfEntry p.book.entries) ((p.batch ++ intent_of x ∷ []) ++ intents (at.front ++ at.back))
+    both = all_taken (IsOfEntry p.book.entries) p.batch at.front x at.back known.contexts
 
-  book_taken : KnownOfBook opening waiting → KnownOfBook opening (record (taken_up x waiting) { pending = at.front ++ at.back })
-  book_taken known =
-      let both = all_taken (IsOfEntry s.book.entries) at.front x at.back known.contexts in
-      record {
-        answers = known.answers;
-        counts = known.counts;
-        commits = record {
-          of_accepted =
-              all_push (λ c. IsSome (change_at s.book.entries c.place)) s.book.commits (commit_of x) known.commits.of_accepted
-              (ap is_some (both.0).accepted);
-          acked_first = acked_push 0 s.book.commits (commit_of x) refl known.commits.acked_first;
-          counted = known.commits.counted ∙ sym (count_push s.book.commits (commit_of x) refl);
-          by_now = all_push (λ c. IfSome c.acked_at (λ a. a ≤ s.events)) s.book.commits (commit_of x) known.commits.by_now tt;
-        };
-        queued = queues_taken s.book.entries s.book.commits x s.pending at both.0 known.queued;
-        contexts = both;
-        last_committed = last_committed;
-        shape = known.shape;
-      }
-    where
-      count : length (s.book.commits ++ commit_of x ∷ []) - 1 ≡ length s.book.commits
-      count = let more = length-append s.book.commits (commit_of x ∷ []) in omega (arith, more)
+    later : (applied count more : ℕ) → applied ≤ count → more ≡ count + 1 → applied ≤ more
+    later applied count more le is = omega (arith, le, is)
 
-      last_committed : drop (length (s.book.commits ++ commit_of x ∷ []) - 1) (commit_places (s.book.commits ++ commit_of x ∷ [])) ≡ x.place ∷ []
-      last_committed =
-          ap (λ (n : ℕ). drop n (commit_places (s.book.commits ++ commit_of x ∷ []))) count
-          ∙ ap (drop (length s.book.commits)) (map-append (λ (c : Commit). c.place) s.book.commits (commit_of x ∷ []))
-          ∙ drop_at (commit_places s.book.commits) (x.place ∷ []) (length s.book.commits) (length-map s.book.commits (λ (c : Commit). c.place))
-
-  pub book_takes : s.batch ≡ None → Ascends (map (λ z. z.place) s.pending) → KnownOfBook opening s → KnownOfBook opening (taken_up x s)
-  book_takes none places known =
-      subst (λ (xs : List Context). KnownOfBook opening (record (taken_up x s) { pending = xs })) (sym (waiting_then s x at places))
-      (book_taken (subst (λ (b : Option Batch). KnownOfBook opening (record s { pending = at.front ++ x ∷ at.back; batch = b })) none
-      (subst (λ (xs : List Context). KnownOfBook opening (record s { pending = xs })) at.is known)))
+pub book_takes : (opening : Objects) (s : State) → s.batch ≡ None → Ascends (map (λ z. z.place) s.pending) → KnownOfBook opening s
+    → KnownOfBook opening (taken_up s)
+book_takes opening s none up known =
+    (kept_by_take (IsKnownWithin opening s.events s.submitted) (known_next opening s.events s.submitted) s none up (omega arith, known)).1
 
 -- ---- the batch is committed
 

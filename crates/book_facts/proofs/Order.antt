@@ -1,16 +1,16 @@
 -- How each call keeps what is known of the order alone.
-use Rattle.std.proofs.Common.{◌≡◌, ℕ, List, [], ◌∷◌, ◌++◌, length, Option, None, refl, sym, ap, subst, append_assoc, map}
+use Rattle.std.proofs.Common.{◌≡◌, ℕ, List, [], ◌∷◌, ◌++◌, length, None, refl, sym, ap, subst, append_assoc, map}
 use Rattle.run_facts.proofs.Common.{AllByRecursion, Entry, Answer, Command, Change, accepted_change, change_at, Plan, Space, Context, Ascends}
 use Rattle.std.specs.Prelude.{is_some, IsSome}
 use Rattle.object_model.specs.declared.command.Answer.TheVariants as answer
 use Rattle.object_model.specs.declared.command.Command.TheVariants as ask
 use Rattle.store_steps.specs.Prelude.{Batch, State, commit_of, taken_up, acknowledged, finished, committed_batch, context_of, entered, accepted_with, Found, opened, Intent, intent_of, intents, BookPart, book_part}
-use Rattle.run_facts.proofs.Prelude.{intents_both, IsFirst, all_join, all_right}
+use Rattle.run_facts.proofs.Prelude.{intents_both, all_join, all_right}
 use Rattle.book_facts.specs.Prelude.{IsOfEntry, KnownOfOrder, IsInOrder}
 use Rattle.book_facts.proofs.Entries.{change_last, of_entries_push}
 use Rattle.book_facts.proofs.Commits.{all_push, places_acknowledged, AreAtPlaces, at_places, of_places}
 use Rattle.book_facts.proofs.Queues.{entry_push, queued_noted, queued_accepted, queued_places}
-use Rattle.book_facts.proofs.Books.{KeepBook, batch_of, nothing_twice, all_taken, queues_taken, waiting_then}
+use Rattle.book_facts.proofs.Books.{KeepBook, batch_of, nothing_twice, IsKeptByNext, kept_by_take, all_taken, queues_taken}
 
 -- at the start
 pub order_opened : (f : Found) (space : Space) (events : ℕ) → IsInOrder (opened f space events)
@@ -23,23 +23,18 @@ order_stays s s' keep known =
 
 -- ---- a batch is opened
 
-order_taken : (s : State) (x : Context) (at : IsFirst [] x s.pending) → IsInOrder (record s { pending = at.front ++ x ∷ at.back; batch = None })
-    → IsInOrder (let t : State = record s { pending = at.front ++ x ∷ at.back; batch = None } in record (taken_up x t) { pending = at.front ++ at.back })
-order_taken s x at known =
-    let both = all_taken (IsOfEntry s.book.entries) at.front x at.back known.contexts in
+order_next : IsKeptByNext KnownOfOrder
+order_next p x xs at known =
+    let both = all_taken (IsOfEntry p.book.entries) p.batch at.front x at.back known.contexts in
     record {
-      of_accepted = all_push (λ c. IsSome (change_at s.book.entries c.place)) s.book.commits (commit_of x) known.of_accepted
+      of_accepted = all_push (λ c. IsSome (change_at p.book.entries c.place)) p.book.commits (commit_of x) known.of_accepted
           (ap is_some (both.0).accepted);
-      queued = queues_taken s.book.entries s.book.commits x s.pending at both.0 known.queued;
-      contexts = both;
+      queued = queues_taken p.book.entries p.book.commits x xs at both.0 known.queued;
+      contexts = both.1;
     }
 
-pub order_takes : (s : State) (x : Context) → s.batch ≡ None → IsFirst [] x s.pending → Ascends (map (λ z. z.place) s.pending) → IsInOrder s
-    → IsInOrder (taken_up x s)
-order_takes s x none at places known =
-    subst (λ (xs : List Context). IsInOrder (record (taken_up x s) { pending = xs })) (sym (waiting_then s x at places))
-    (order_taken s x at (subst (λ (b : Option Batch). IsInOrder (record s { pending = at.front ++ x ∷ at.back; batch = b })) none
-    (subst (λ (xs : List Context). IsInOrder (record s { pending = xs })) at.is known)))
+pub order_takes : (s : State) → s.batch ≡ None → Ascends (map (λ z. z.place) s.pending) → IsInOrder s → IsInOrder (taken_up s)
+order_takes = kept_by_take KnownOfOrder order_next
 
 -- ---- it is committed, and a commit is acknowledged
 

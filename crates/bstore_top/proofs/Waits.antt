@@ -15,7 +15,7 @@ use Rattle.object_model.specs.declared.command.Command.TheVariants as command
 use Rattle.script_text.specs.declared.line.Line.{Line}
 use Rattle.store_steps.specs.declared.step.Step.{Step}
 use Rattle.store_steps.specs.declared.step.Step.TheVariants as steps
-use Rattle.store_steps.specs.Prelude.{State, Call, stepping, Submits, Reads, DoesOrFails, Calls}
+use Rattle.store_steps.specs.Prelude.{State, commit_of, Call, stepping, Submits, Reads, DoesOrFails, Calls}
 use Rattle.run_facts.specs.Prelude.{AcksAre, IsKept, BookStep, book_same, book_commits, book_acks}
 use Rattle.run_facts.proofs.Prelude.{book_step, kept_call}
 use Rattle.book_facts.specs.Prelude.{commit_places}
@@ -57,21 +57,18 @@ book_stays old new same = record {
   commits = with_none _ _ (ap (λ (b : Book). commit_places b.commits) same);
 }
 
-places_behind : (cs : List Commit) (c : Commit) → commit_places (cs ++ c ∷ []) ≡ commit_places cs ++ c.place ∷ []
-places_behind [] c = refl
-places_behind (x ∷ cs) c = ap (λ (l : List ℕ). x.place ∷ l) (places_behind cs c)
+places_behind : (cs ds : List Commit) → commit_places (cs ++ ds) ≡ commit_places cs ++ commit_places ds
+places_behind [] ds = refl
+places_behind (x ∷ cs) ds = ap (λ (l : List ℕ). x.place ∷ l) (places_behind cs ds)
 
 pub step_goes_on : (step : Step) (s : State) (d : Disk) (s' : State) (d' : Disk) → DoesOrFails step s d s' d' → BookGoesOn s.book s'.book
 step_goes_on step s d s' d' does = of_book step (book_step step s d s' d' does)
   where
     of_book : (step : Step) → BookStep s s' step → BookGoesOn s.book s'.book
     of_book step (book_same is) = book_stays s.book s'.book is
-    of_book steps.Take (book_commits place is) = record {
+    of_book steps.Take (book_commits xs is) = record {
       entries = ap (λ (b : Book). b.entries) is;
-      commits = (
-        place ∷ [],
-        ap (λ (b : Book). commit_places b.commits) is ∙ places_behind s.book.commits (record { place = place; acked_at = None }),
-      );
+      commits = (commit_places (map commit_of xs), ap (λ (b : Book). commit_places b.commits) is ∙ places_behind s.book.commits (map commit_of xs));
     }
     of_book steps.Finish (book_acks is) = record {
       entries = ap (λ (b : Book). b.entries) is;

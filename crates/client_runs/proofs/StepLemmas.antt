@@ -1,5 +1,5 @@
 -- How steps keep the clients tied to the book.
-use Rattle.std.proofs.Common.{◌≡◌, ◌≢◌, ℕ, zero, suc, ◌+◌, ◌<◌, Bool, true, false, List, [], ◌∷◌, ◌++◌, length, Option, Some, None}
+use Rattle.std.proofs.Common.{◌≡◌, ◌≢◌, ℕ, zero, suc, ◌+◌, ◌<◌, Bool, true, false, List, [], ◌∷◌, ◌++◌, length, map, Option, Some, None}
 use Rattle.std.proofs.Common.{Result, Ok, Err, OnOk, ap, ◌∙◌, sym, refl, subst, arith}
 use Rattle.std.specs.Prelude.{slice_get, slice_index_or, is_some, IsSome, IfSome, ◌==◌, ◌||◌, nat_eq, nat_lt, option_and_then}
 use Rattle.std.specs.List.{AllByRecursion, IsDistinct}
@@ -11,7 +11,7 @@ use Rattle.object_model.specs.declared.book.Commit.{Commit}
 use Rattle.object_model.specs.declared.book.Entry.{Entry}
 use Rattle.store_steps.specs.declared.step.Step.{Step}
 use Rattle.store_steps.specs.declared.step.Step.TheVariants.{Take, Finish}
-use Rattle.store_steps.specs.Prelude.{State, is_ready, Does, DoesOrFails, Call, stepping, Calls, intents, acknowledged}
+use Rattle.store_steps.specs.Prelude.{State, commit_of, is_ready, Does, DoesOrFails, Call, stepping, Calls, intents, acknowledged}
 use Rattle.store_kernel.specs.declared.step_fail.StepFail.{StepFail}
 use Rattle.run_facts.specs.Prelude.{IsKept, BookStep, book_same, book_commits, book_acks}
 use Rattle.run_facts.proofs.Prelude.{does_well, book_step, step_entries, ready_by_table, finish_ready, all_left}
@@ -23,7 +23,7 @@ use Rattle.client_runs.specs.declared.clients.Clients.{Clients}
 use Rattle.client_runs.specs.Prelude.{unacked, IsClient, one_less, able_of, changed, AreCounts, AreOfClients, AreTied, IsOfOne, IsAckedNext}
 use Rattle.client_runs.proofs.DrawLemmas.{item_at}
 use Rattle.client_runs.proofs.ClientLemmas.{length_changed, well_changed}
-use Rattle.client_runs.proofs.TieLemmas.{one_if, unacked_by, acknowledged_push, acknowledged_next, not_acknowledged, counted_off, accepted_of, count_at, counts_by, counts_changed}
+use Rattle.client_runs.proofs.TieLemmas.{one_if, unacked_by, acknowledged_more, acknowledged_next, not_acknowledged, counted_off, accepted_of, count_at, counts_by, counts_changed}
 
 -- ---- the order
 
@@ -37,10 +37,9 @@ order_one call s d s' d' kept order called sound =
 module _ (s s' : State) where
   unacked_step : (step : Step) → BookStep s s' step → (step ≡ Finish → ⊥) → (m : ℕ) → unacked m s'.book ≡ unacked m s.book
   unacked_step step (book_same e) never m = ap (λ (b : Book). unacked m b) e
-  unacked_step Take (book_commits place e) never m =
-      let more : Commit = record { place = place; acked_at = None } in
+  unacked_step Take (book_commits xs e) never m =
       ap (λ (b : Book). unacked m b) e
-      ∙ unacked_by m s.book.commits (s.book.commits ++ more ∷ []) 0 s.book.entries (λ p. acknowledged_push s.book.commits more p refl)
+      ∙ unacked_by m s.book.commits (s.book.commits ++ map commit_of xs) 0 s.book.entries (λ p. acknowledged_more s.book.commits xs p)
   unacked_step Finish (book_acks e) never m = absurd (never refl)
 
   -- clients are tied to a book with the same entries, where counts are as they were

@@ -1,6 +1,6 @@
 -- How each call of the kernel keeps the clients tied to its book.
-use Rattle.std.proofs.Common.{◌≡◌, ◌≢◌, ℕ, zero, suc, ◌+◌, ◌<◌, ◌≤◌, Bool, true, false, cond, List, [], ◌∷◌, ◌++◌, length, Option, Some, None}
-use Rattle.std.proofs.Common.{ap, ◌∙◌, sym, refl, subst, arith}
+use Rattle.std.proofs.Common.{◌≡◌, ◌≢◌, ℕ, zero, suc, ◌+◌, ◌<◌, ◌≤◌, Bool, true, false, cond, List, [], ◌∷◌, ◌++◌, length, map, Option, Some, None}
+use Rattle.std.proofs.Common.{ap, ◌∙◌, sym, refl, subst, append-nil, append_assoc, arith}
 use Rattle.std.specs.Prelude.{slice_get, is_some, IfSome, ◌&&◌, ◌||◌, not, ◌==◌, nat_eq, nat_lt}
 use Rattle.std.specs.List.{AllByRecursion, IsDistinct}
 use Rattle.std.proofs.lemmas.Bool.{ne_eqb, eq-eqb, eqb-false, lt-ltb, le-ltb, ltb-true, ltb-false}
@@ -9,7 +9,8 @@ use Rattle.object_model.specs.Prelude.{accepted_change, is_acknowledged}
 use Rattle.object_model.specs.declared.book.Book.{Book}
 use Rattle.object_model.specs.declared.book.Commit.{Commit}
 use Rattle.object_model.specs.declared.book.Entry.{Entry}
-use Rattle.store_steps.specs.Prelude.{acknowledged}
+use Rattle.store_steps.specs.declared.context.Context.{Context}
+use Rattle.store_steps.specs.Prelude.{commit_of, acknowledged}
 use Rattle.book_facts.specs.Prelude.{commit_places}
 use Rattle.client_runs.specs.declared.client.Client.{Client}
 use Rattle.client_runs.specs.Prelude.{is_accepted_of, unacked_from, unacked, changed, AreCounts, IsOfOne}
@@ -79,6 +80,12 @@ acknowledged_push [] c p none = ap (λ (o : Option ℕ). ((c.place == p) && is_s
     and_false true = refl
     and_false false = refl
 acknowledged_push (x ∷ xs) c p none = ap (λ (b : Bool). ((x.place == p) && is_some x.acked_at) || b) (acknowledged_push xs c p none)
+
+pub acknowledged_more : (commits : List Commit) (xs : List Context) (p : ℕ) → is_acknowledged (commits ++ map commit_of xs) p ≡ is_acknowledged commits p
+acknowledged_more commits [] p = ap (λ (cs : List Commit). is_acknowledged cs p) (append-nil commits)
+acknowledged_more commits (x ∷ xs) p =
+    ap (λ (cs : List Commit). is_acknowledged cs p) (sym (append_assoc commits (commit_of x ∷ []) (map commit_of xs)))
+    ∙ acknowledged_more (commits ++ commit_of x ∷ []) xs p ∙ acknowledged_push commits (commit_of x) p refl
 
 lt_suc : (i k : ℕ) → nat_lt (suc i) (suc k) ≡ nat_lt i k
 lt_suc i k = by_test (nat_lt i k) refl

@@ -79,7 +79,7 @@ bytes_kept flights t p q h w r xs unit (units.gives ticket run g) placed size li
     (let P : FreshUnit → Type 0 = λ (f : FreshUnit). f.unit ≢ unit in
     all_left P (unsent_units run) g.back (all_right P g.front (unsent_units run ++ g.back)
     (subst (λ (r : DataPart). AllByRecursion P r.given) g.then (own P others)))))
-bytes_kept flights t p q h w r xs unit (units.opens front mine back fresh before is) placed size limits width good own has = refl
+bytes_kept flights t p q h w r xs unit (units.opens fresh rest order is) placed size limits width good own has = refl
 bytes_kept flights t p q h w r xs unit (units.flushes_batch ticket untouched is) placed size limits width good own has =
     held_quiet h Flush xs unit tt
 bytes_kept flights t p q h w r xs unit (units.is_flushed ticket was is) placed size limits width good own has =
@@ -99,8 +99,8 @@ switched_quiet flights t p q (units.switches number is) next = refl
 switched_quiet flights t p q (units.same spares is) next = absurd (data_stays p q is next)
 switched_quiet flights t p q (units.gives ticket run g) next =
     absurd (data_stays (record p { given = g.front ++ (unsent_units run ++ g.back) }) q g.then next)
-switched_quiet flights t p q (units.opens front mine back fresh before is) next =
-    absurd (data_stays (record p { given = mine ++ (front ++ back); fresh = fresh; first = not_sent }) q is next)
+switched_quiet flights t p q (units.opens fresh rest order is) next =
+    absurd (data_stays (record p { given = fresh ++ rest; fresh = fresh; first = not_sent }) q is next)
 switched_quiet flights t p q (units.flushes_batch ticket untouched is) next = absurd (data_stays (record p { first = sent ticket }) q is next)
 switched_quiet flights t p q (units.is_flushed ticket was is) next = absurd (data_stays (record p { first = flushed }) q is next)
 switched_quiet flights t p q (units.retires rest was before is) next =

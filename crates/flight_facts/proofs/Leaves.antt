@@ -3,7 +3,7 @@ use Rattle.std.proofs.Common.{◌≡◌, inl, inr, true, false, Option, Some, No
 use Rattle.flight_facts.proofs.Common.{Disk, Ticket, Step}
 use Rattle.object_model.specs.declared.book.Book.{Book}
 use Rattle.store_steps.specs.declared.step.Step.TheVariants.{Data, Reap, Take, Flush, Record, Sync, Finish, CheckWrite, CheckFlush, SlotWrite, SlotFlush}
-use Rattle.store_steps.specs.Prelude.{State, down_by, Takes, Does, DoesOrFails}
+use Rattle.store_steps.specs.Prelude.{State, most_grouped, choice, down_by, Takes, Does, DoesOrFails}
 use Rattle.flight_facts.specs.Prelude.{DeviceGoes, rests, submits, takes_end, gives_none, BookStep, book_same, book_commits, book_acks}
 use Rattle.flight_facts.proofs.Ends.{good_end}
 
@@ -36,7 +36,7 @@ pub book_step : (step : Step) (s : State) (d : Disk) (s' : State) (d' : Disk) �
 book_step Reap s d s' d' (inl (inl took)) = book_same (ap (λ (z : State). z.book) took.after ∙ (good_end took.ticket s).book)
 book_step Reap s d s' d' (inl (inr none)) = book_same (ap (λ (z : State). z.book) none.1)
 book_step Reap s d s' d' (inr took) = book_same (ap (λ (z : State). z.book) took.after)
-book_step Take s d s' d' (inl batch) = book_commits batch.context.place (ap (λ (z : State). z.book) batch.after)
+book_step Take s d s' d' (inl batch) = book_commits (choice most_grouped s.pending) (ap (λ (z : State). z.book) batch.after)
 book_step Take s d s' d' (inr check) = book_same (ap (λ (z : State). z.book) check.after)
 book_step Finish s d s' d' does = book_acks (ap (λ (z : State). z.book) does.after)
 book_step step s d s' d' does = book_same (ap (λ (z : State). z.book) does.after)
@@ -44,7 +44,7 @@ book_step step s d s' d' does = book_same (ap (λ (z : State). z.book) does.afte
 -- so the entries stay
 pub step_entries : (step : Step) (s s' : State) → BookStep s s' step → s'.book.entries ≡ s.book.entries
 step_entries step s s' (book_same is) = ap (λ (b : Book). b.entries) is
-step_entries Take s s' (book_commits place is) = ap (λ (b : Book). b.entries) is
+step_entries Take s s' (book_commits xs is) = ap (λ (b : Book). b.entries) is
 step_entries Finish s s' (book_acks is) = ap (λ (b : Book). b.entries) is
 
 -- ---- whether it is down

@@ -12,6 +12,8 @@ pub mod Leaves
 pub mod RunUnits
 pub mod RunPlaces
 pub mod Choosing
+pub mod Picking
+pub mod Needs
 pub mod Matching
 pub mod Switching
 pub mod MatchingMore

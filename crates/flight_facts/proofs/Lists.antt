@@ -85,6 +85,17 @@ elsewhere (y ∷ front) x back up =
     let rest : AreElsewhere x.place front back = elsewhere front x back up.1 in
     record { ahead = (ne_eqb y.place x.place (omega (arith, below_middle y.place front x back up.0)), rest.ahead); behind = rest.behind }
 
+all_out : (P : ℕ → Type 0) (front : List Context) (x : Context) (back : List Context)
+    → AllByRecursion P (map (λ z. z.place) (front ++ x ∷ back)) → AllByRecursion P (map (λ z. z.place) (front ++ back))
+all_out P [] x back all = all.1
+all_out P (y ∷ front) x back all = (all.0, all_out P front x back all.1)
+
+-- without one of them they ascend still
+pub ascend_less : (front : List Context) (x : Context) (back : List Context) → Ascends (map (λ z. z.place) (front ++ x ∷ back))
+    → Ascends (map (λ z. z.place) (front ++ back))
+ascend_less [] x back up = up.1
+ascend_less (y ∷ front) x back up = (all_out (λ v. y.place < v) front x back up.0, ascend_less front x back up.1)
+
 with_away : (place : ℕ) (change : Context → Context) (xs : List Context) → AllByRecursion (λ y. y.place == place ≡ false) xs → with_context place change xs ≡ xs
 with_away place change [] away = refl
 with_away place change (x ∷ xs) away =

@@ -1,25 +1,28 @@
 -- Data and Take, of any number of contexts; a transaction that joins, and an entry of the book.
-use Rattle.std.proofs.Common.{◌≡◌, inl, inr, ℕ, ◌+◌, ◌<◌, ◌≤◌, ◌==◌, Bool, true, false, cond, List, [], ◌∷◌, ◌++◌, length, map, take, Option, Some, None, IfSome, refl, sym, ap, subst, ◌∙◌, append-nil, length-append, arith}
-use Rattle.flight_facts.proofs.Common.{AllByRecursion, option_or, eq-eqb, ne_eqb, cases_lt, Ascends, Flight, flight_of, IsApart, Ticket, unit_count, FreshUnit, Context, Flying, Job, RowOp, Meta, Begun}
+use Rattle.std.proofs.Common.{◌≡◌, ◌≢◌, inl, inr, ℕ, ◌+◌, ◌<◌, ◌≤◌, ◌==◌, Bool, true, false, cond, List, [], ◌∷◌, ◌++◌, length, map, take, Option, Some, None, IfSome, refl, sym, ap, subst, ◌∙◌, append-nil, length-append, arith}
+use Rattle.flight_facts.proofs.Common.{AllByRecursion, flat_map, option_or, eq-eqb, ne_eqb, cases_lt, Ascends, Flight, flight_of, IsApart, Ticket, unit_count, FreshUnit, Context, Flying, Job, Meta, Begun}
 use Rattle.std.proofs.lemmas.List.{map-append}
 use Rattle.block_device.specs.declared.event.Event.TheVariants as event
 use Rattle.store_steps.specs.declared.flight.FlushState.TheVariants as flush
 use Rattle.store_steps.specs.declared.flight.Job.TheVariants as job
 use Rattle.object_model.specs.Prelude.{Change}
+use Rattle.object_model.specs.declared.book.Book.{Book}
+use Rattle.object_model.specs.declared.book.Entry.{Entry}
 use Rattle.object_model.specs.declared.command.Command.{Command}
 use Rattle.object_model.specs.declared.command.Answer.{Answer}
 use Rattle.plan_rows.specs.declared.plan.Plan.{Plan}
 use Rattle.store_steps.specs.declared.flight.Switching.{Switching}
-use Rattle.store_steps.specs.Prelude.{Batch, State, Unsent, unsent_units, run_bytes, unsent, next_unsent, chosen, given_more, data_sent, taken_up, check_pieces, need_of, context_of, entered, accepted_with, units_taken, intent_of}
-use Rattle.flight_facts.specs.Prelude.{batch_pieces, batch_stages, IsBatchOpen, IsBatchFar, IsSwitchFar, units_for, units_flying, is_of_batch, is_of_switch, flying_for, IsPartGiven, AreInPlace, IsNone, TouchesGiven, AnyByRecursion, IsWriteOf, IsGivenPiece, TouchesOnlyOf, IsOfJob, AreOfJobs, FlightsMatch, FitsRecord}
+use Rattle.store_steps.specs.Prelude.{Batch, State, Unsent, unsent_units, run_bytes, unsent, next_unsent, choice, left_by, most_grouped, given_more, data_sent, taken_up, check_pieces, need_of, context_of, entered, accepted_with, units_taken, intent_of}
+use Rattle.flight_facts.specs.Prelude.{IsAllGiven, batch_pieces, batch_stages, IsBatchOpen, IsBatchFar, IsSwitchFar, units_for, units_flying, is_of_batch, is_of_switch, flying_for, IsPartGiven, AreInPlace, IsNone, TouchesGiven, AnyByRecursion, IsWriteOf, IsGivenPiece, TouchesOnlyOf, IsOfJob, AreOfJobs, FlightsMatch, FitsRecord}
 use Rattle.flight_facts.proofs.Untouched.{all_then, apart_before, apart_behind}
 use Rattle.flight_facts.proofs.RunUnits.{IsRunOf, run_of_left, row_bytes, row_at, given_units}
 use Rattle.flight_facts.proofs.RunPlaces.{run_whole}
-use Rattle.flight_facts.proofs.Lists.{all_left, all_right, all_join, StandsIn, stands_any, any_front, all_at, AreElsewhere, elsewhere, with_in, without_in}
+use Rattle.flight_facts.proofs.Lists.{all_left, all_right, all_join, StandsIn, stands_any, any_front, all_at, AreElsewhere, elsewhere, with_in}
 use Rattle.flight_facts.proofs.Landing.{units_both, part_both, jobs_then, jobs_sent}
 use Rattle.flight_facts.proofs.OfJobs.{touched, no_units, GoesOn}
 use Rattle.flight_facts.proofs.Stages.{flight_for, none_sent}
-use Rattle.flight_facts.proofs.Choosing.{IsFirst, chosen_first}
+use Rattle.flight_facts.proofs.Picking.{ArePicked, picked, choice_done, picked_up, all_picked}
+use Rattle.flight_facts.proofs.Needs.{needs_most}
 use Rattle.flight_facts.proofs.Matching.{waiting_same, jobs_change}
 use Rattle.flight_facts.proofs.Switching.{rests_batch}
 
@@ -220,71 +223,76 @@ less_job : (m : Meta) (front : List Context) (x : Context) (back : List Context)
 less_job m front x back (job.Data place count) g none w = less_write front x back place count g none w
 less_job m front x back other g none is = is
 
-all_out : (P : ℕ → Type 0) (front : List Context) (x : Context) (back : List Context)
-    → AllByRecursion P (map (λ z. z.place) (front ++ x ∷ back)) → AllByRecursion P (map (λ z. z.place) (front ++ back))
-all_out P [] x back all = all.1
-all_out P (y ∷ front) x back all = (all.0, all_out P front x back all.1)
-
-ascend_less : (front : List Context) (x : Context) (back : List Context) → Ascends (map (λ z. z.place) (front ++ x ∷ back))
-    → Ascends (map (λ z. z.place) (front ++ back))
-ascend_less [] x back up = up.1
-ascend_less (y ∷ front) x back up = (all_out (λ v. y.place < v) front x back up.0, ascend_less front x back up.1)
-
--- a batch that was just opened
-abbrev pub new_batch : Context → Batch
-new_batch x = record { contexts = x ∷ []; first = flush.NotSent; second = flush.NotSent }
-
-take_among : (s : State) (flights : List Flight) (front : List Context) (x : Context) (back : List Context) → s.pending ≡ front ++ x ∷ back
-    → x.done ≡ length x.fresh → FitsRecord (intent_of x) → s.log.tail + unit_count s.log.number x.ops ≤ s.log.sup.half → s.batch ≡ None
-    → s.switching ≡ None → FlightsMatch s flights
-    → (let t : State = record s { pending = front ++ back; batch = Some (new_batch x); book = (taken_up x s).book } in FlightsMatch t flights)
-take_among s flights front x back is done fits room none rests m =
-    let places : AreInPlace (length s.book.entries) (front ++ x ∷ back) = subst (AreInPlace (length s.book.entries)) is m.places in
-    let waiting : AllByRecursion (IsPartGiven s.flying) (front ++ x ∷ back) = subst (AllByRecursion (IsPartGiven s.flying)) is m.waiting in
-    let behind : AllByRecursion (IsPartGiven s.flying) (x ∷ back) = all_right (IsPartGiven s.flying) front (x ∷ back) waiting in
-    let rest = rests_batch s flights m none in
-    let idle : units_flying x.place s.flying ≡ 0 = none_left x.done (units_flying x.place s.flying) x.given (length x.fresh) done (behind.0).within (behind.0).counted in
-    record {
-      places = record {
-        ascend = ascend_less front x back places.ascend;
-        below = all_join (λ z. z.place < length s.book.entries) front back
-            (all_left (λ z. z.place < length s.book.entries) front (x ∷ back) places.below)
-            (all_right (λ z. z.place < length s.book.entries) front (x ∷ back) places.below).1;
-      };
-      waiting = all_join (IsPartGiven s.flying) front back (all_left (IsPartGiven s.flying) front (x ∷ back) waiting) behind.1;
-      batch = subst (λ (o : Option Begun). IsBatchOpen s.log.sup.half s.log.tail s.log.number (new_batch x) o (flying_for is_of_batch s.flying)) (sym rest.0)
-          (subst (IsBatchOpen s.log.sup.half s.log.tail s.log.number (new_batch x) None) (sym rest.1) (record {
-            needed = needed (unit_count s.log.number (x.ops ++ [])) x.need
-                (ap (λ (ops : List RowOp). unit_count s.log.number ops) (append-nil x.ops) ∙ fits.need s.log.number);
-            fits = subst (λ (ops : List RowOp). s.log.tail + unit_count s.log.number ops ≤ s.log.sup.half) (sym (append-nil x.ops)) room;
-            written = (record { given = all_given x.done (units_flying x.place s.flying) x.given (length x.fresh) done (behind.0).within (behind.0).counted; done = done }, tt);
-            made = tt;
-            far = none_sent (batch_stages (batch_pieces s.log.number (new_batch x)) (new_batch x) None) (tt, ((refl, refl), (tt, tt)));
-          }));
-      switch = m.switch;
-      alone = subst (λ (o : Option Switching). IfSome o (λ w. Some (new_batch x) ≡ None)) (sym rests) tt;
-      touches = jobs_then s.log s.log (front ++ x ∷ back) (front ++ back) s.flying flights
-          (all_then (λ f. units_for x.place f.job ≡ 0) (λ f. (g : Flight) → IsOfJob s.log (front ++ x ∷ back) f.job g → IsOfJob s.log (front ++ back) f.job g)
-          (λ f e g of. less_job s.log front x back f.job g e of) s.flying (none_flies x.place s.flying idle))
-          (subst (λ (xs : List Context). AreOfJobs s.log xs s.flying flights) is m.touches);
-    }
+-- all units of a context that is done have reached the device, so none of them flies
+done_given : (flying : List Flying) (x : Context) → x.done ≡ length x.fresh → IsPartGiven flying x → IsAllGiven x × (units_flying x.place flying ≡ 0)
+done_given flying x done part = (
+  record { given = all_given x.done (units_flying x.place flying) x.given (length x.fresh) done part.within part.counted; done = done },
+  none x.done (units_flying x.place flying) x.given (length x.fresh) done part.within part.counted,
+)
   where
-    none_left : (done units given all : ℕ) → done ≡ all → given ≤ all → done + units ≡ given → units ≡ 0
-    none_left done units given all is within counted = omega (arith, is, within, counted)
-
-    needed : (units need : ℕ) → units ≡ need → units ≤ need + 0
-    needed units need is = omega (arith, is)
-
     all_given : (done units given all : ℕ) → done ≡ all → given ≤ all → done + units ≡ given → given ≡ all
     all_given done units given all is within counted = omega (arith, is, within, counted)
 
-pub take_matches : (s : State) (flights : List Flight) (x : Context) → FlightsMatch s flights → AllByRecursion (λ z. FitsRecord (intent_of z)) s.pending
-    → s.batch ≡ None → s.switching ≡ None → chosen s.pending ≡ Some x → s.log.tail + units_taken s x ≤ s.log.sup.half → FlightsMatch (taken_up x s) flights
-take_matches s flights x m fits none rests is room =
-    let at : IsFirst [] x s.pending = chosen_first [] s.pending x is in
-    subst (λ (xs : List Context). let t : State = record s { pending = xs; batch = Some (new_batch x); book = (taken_up x s).book } in FlightsMatch t flights)
-    (sym (without_in at.front x at.back s.pending at.is m.places.ascend))
-    (take_among s flights at.front x at.back at.is at.done (all_at (λ z. FitsRecord (intent_of z)) at.front x at.back s.pending at.is fits) room none rests m)
+    none : (done units given all : ℕ) → done ≡ all → given ≤ all → done + units ≡ given → units ≡ 0
+    none done units given all is within counted = omega (arith, is, within, counted)
+
+pub each_given : (flying : List Flying) (xs : List Context) → AllByRecursion (λ x. x.done ≡ length x.fresh) xs → AllByRecursion (IsPartGiven flying) xs
+    → AllByRecursion IsAllGiven xs
+each_given flying [] done parts = tt
+each_given flying (x ∷ xs) done parts = ((done_given flying x done.0 parts.0).0, each_given flying xs done.1 parts.1)
+
+-- what flies is of those left
+jobs_left : (m : Meta) (flying : List Flying) (flights : List Flight) (xs ys left : List Context) → ArePicked xs ys left
+    → AllByRecursion (IsPartGiven flying) xs → AreOfJobs m xs flying flights → AreOfJobs m left flying flights
+jobs_left m flying flights xs [] left are parts of = subst (λ (zs : List Context). AreOfJobs m zs flying flights) (sym are) of
+jobs_left m flying flights xs (y ∷ ys) left (at, are) parts of =
+    let them : AllByRecursion (IsPartGiven flying) (at.front ++ y ∷ at.back) = subst (AllByRecursion (IsPartGiven flying)) at.is parts in
+    let behind : AllByRecursion (IsPartGiven flying) (y ∷ at.back) = all_right (IsPartGiven flying) at.front (y ∷ at.back) them in
+    let idle : units_flying y.place flying ≡ 0 = (done_given flying y at.done behind.0).1 in
+    jobs_left m flying flights (at.front ++ at.back) ys left are
+    (all_join (IsPartGiven flying) at.front at.back (all_left (IsPartGiven flying) at.front (y ∷ at.back) them) behind.1)
+    (jobs_then m m (at.front ++ y ∷ at.back) (at.front ++ at.back) flying flights
+    (all_then (λ f. units_for y.place f.job ≡ 0) (λ f. (g : Flight) → IsOfJob m (at.front ++ y ∷ at.back) f.job g → IsOfJob m (at.front ++ at.back) f.job g)
+    (λ f e g of. less_job m at.front y at.back f.job g e of) flying (none_flies y.place flying idle))
+    (subst (λ (zs : List Context). AreOfJobs m zs flying flights) at.is of))
+
+-- a batch that was just opened
+abbrev pub new_batch : List Context → Batch
+new_batch xs = record { contexts = xs; first = flush.NotSent; second = flush.NotSent }
+
+take_among : (s : State) (flights : List Flight) (ys left : List Context) (book : Book) → ArePicked s.pending ys left → ys ≢ []
+    → AllByRecursion (λ x. x.done ≡ length x.fresh) ys → book.entries ≡ s.book.entries → AllByRecursion (λ z. FitsRecord (intent_of z)) s.pending
+    → s.log.tail + unit_count s.log.number (flat_map (λ x. x.ops) ys) ≤ s.log.sup.half → s.batch ≡ None → s.switching ≡ None → FlightsMatch s flights
+    → (let t : State = record s { pending = left; batch = Some (new_batch ys); book = book } in FlightsMatch t flights)
+take_among s flights ys left book are some done entries fits room none rests m =
+    let rest = rests_batch s flights m none in
+    let parts = all_picked (IsPartGiven s.flying) s.pending ys left are m.waiting in
+    record {
+      places = record {
+        ascend = picked_up s.pending ys left are m.places.ascend;
+        below = subst (λ (es : List Entry). AllByRecursion (λ z. z.place < length es) left) (sym entries)
+            (all_picked (λ z. z.place < length s.book.entries) s.pending ys left are m.places.below).1;
+      };
+      waiting = parts.1;
+      batch = subst (λ (o : Option Begun). IsBatchOpen s.log.sup.half s.log.tail s.log.number (new_batch ys) o (flying_for is_of_batch s.flying)) (sym rest.0)
+          (subst (IsBatchOpen s.log.sup.half s.log.tail s.log.number (new_batch ys) None) (sym rest.1) (record {
+            needed = needs_most s.log.number ys some (all_picked (λ z. FitsRecord (intent_of z)) s.pending ys left are fits).0;
+            fits = room;
+            written = each_given s.flying ys done parts.0;
+            made = tt;
+            far = none_sent (batch_stages (batch_pieces s.log.number (new_batch ys)) (new_batch ys) None) (tt, ((refl, refl), (tt, tt)));
+          }));
+      switch = m.switch;
+      alone = subst (λ (o : Option Switching). IfSome o (λ w. Some (new_batch ys) ≡ None)) (sym rests) tt;
+      touches = jobs_left s.log s.flying flights s.pending ys left are m.waiting m.touches;
+    }
+
+pub take_matches : (s : State) (flights : List Flight) → FlightsMatch s flights → AllByRecursion (λ z. FitsRecord (intent_of z)) s.pending
+    → s.batch ≡ None → s.switching ≡ None → choice most_grouped s.pending ≢ [] → s.log.tail + units_taken s ≤ s.log.sup.half
+    → FlightsMatch (taken_up s) flights
+take_matches s flights m fits none rests some room =
+    take_among s flights (choice most_grouped s.pending) (left_by most_grouped s.pending) (taken_up s).book
+    (picked most_grouped s.pending m.places.ascend) some (choice_done most_grouped s.pending) refl fits room none rests m
 
 -- ---- a transaction that joins, and an entry of the book
 

@@ -144,7 +144,7 @@ pub take_does : (s : State) (d : Disk) (s' : State) (d' : Disk) → FlightsMatch
 take_does s d s' d' m fits ready (inl batch) =
     let idle = take_tests s d.depth ready in
     becomes s' _ d'.flights d.flights batch.after (ap (λ (e : Disk). e.flights) batch.same)
-    (take_matches s d.flights batch.context m fits idle.0 idle.1 batch.is_chosen batch.fits)
+    (take_matches s d.flights m fits idle.0 idle.1 batch.some batch.fits)
 take_does s d s' d' m fits ready (inr check) =
     let idle = take_tests s d.depth ready in
     becomes s' _ d'.flights d.flights check.after (ap (λ (e : Disk). e.flights) check.same) (begun_matches s d.flights m idle.0 idle.1)

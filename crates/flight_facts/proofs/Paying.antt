@@ -1,6 +1,7 @@
 -- What each step pays: it leaves less work, for any number of contexts, and what else it does to the device and to the counts.
-use Rattle.std.proofs.Common.{◌≡◌, ◌⊎◌, inl, inr, ℕ, ◌+◌, ◌-◌, ◌*◌, ◌<◌, ◌≤◌, ◌==◌, Bool, true, false, cond, suc, List, [], ◌∷◌, ◌++◌, length, Option, Some, None, is_some, is_none, refl, sym, ap, subst, ◌∙◌, append-nil, arith}
-use Rattle.flight_facts.proofs.Common.{AllByRecursion, option_map_or, eq-eqb, ltb-true, ne_eqb, Disk, Ticket, unit_count, piece_count, check_units, RowOp, Context, FlushState, Flying, Job, Meta, Begun, Checking, is_flushed}
+use Rattle.std.proofs.Common.{◌≡◌, ◌⊎◌, inl, inr, ℕ, ◌+◌, ◌-◌, ◌*◌, ◌<◌, ◌≤◌, ◌==◌, Bool, true, false, cond, suc, List, [], ◌∷◌, ◌++◌, length, map, Option, Some, None, is_some, is_none, refl, sym, ap, subst, ◌∙◌, length-append, arith}
+use Rattle.flight_facts.proofs.Common.{AllByRecursion, option_map_or, eq-eqb, ltb-true, ne_eqb, Disk, Ticket, piece_count, check_units, RowOp, Context, FlushState, Flying, Job, Meta, Begun, Checking, is_flushed}
+use Rattle.std.proofs.lemmas.List.{length-map}
 use Rattle.object_model.specs.declared.book.Commit.{Commit}
 use Rattle.block_device.specs.Prelude.{Submitted}
 use Rattle.block_device.specs.declared.event.Event.{Event}
@@ -13,17 +14,18 @@ use Rattle.store_steps.specs.declared.flight.Job.TheVariants as job
 use Rattle.store_steps.specs.declared.step.Step.TheVariants.{Take, Flush, Record, Sync, Finish, CheckWrite, CheckFlush, SlotWrite, SlotFlush, Switch}
 use Rattle.meta_store.specs.Checks as checks
 use Rattle.store_steps.specs.declared.flight.Switching.{Switching}
-use Rattle.store_steps.specs.Prelude.{Batch, State, Unsent, unsent_units, run_bytes, given_more, with_context, without_context, after_done, record_sent, sealed, commit_of, acknowledged, log_after, is_not_sent, check_pieces, applied_count, is_ready_up, Takes, DoesData, OpensBatch, OpensCheck, DoesTake, DoesFlush, DoesSeal, DoesRecord, DoesSync, DoesCommit, DoesFinish, DoesCheckWrite, DoesCheckFlush, DoesSlotWrite, DoesSlotFlush, DoesSwitch, intent_of}
+use Rattle.store_steps.specs.Prelude.{Batch, State, Unsent, unsent_units, run_bytes, given_more, with_context, choice, left_by, most_grouped, units_taken, sum_needs, after_done, record_sent, sealed, commit_of, acknowledged, log_after, is_not_sent, check_pieces, applied_count, is_ready_up, Takes, DoesData, OpensBatch, OpensCheck, DoesTake, DoesFlush, DoesSeal, DoesRecord, DoesSync, DoesCommit, DoesFinish, DoesCheckWrite, DoesCheckFlush, DoesSlotWrite, DoesSlotFlush, DoesSwitch, intent_of}
 use Rattle.flight_facts.specs.Prelude.{Stage, by_one, by_pieces, stages_work, AreFlights, batch_pieces, batch_stages, switch_stages, flying_for, is_of_batch, FitsRecord, FlightsMatch, HasCheckRoom, check_most, work_of, sum_work, batch_work, switch_work, check_due, work_left}
 use Rattle.flight_facts.proofs.Flying.{sent_flight, sent_units, others_of, Landed, landed_flight, reaped_good}
 use Rattle.flight_facts.proofs.Landing.{IsLeftOut, left_out}
 use Rattle.flight_facts.proofs.Ends.{DoneLeaves, done_alone, done_leaves}
-use Rattle.flight_facts.proofs.Lists.{StandsIn, with_in, without_in, all_at, length_push, length_middle}
-use Rattle.flight_facts.proofs.Pieces.{same_units}
+use Rattle.flight_facts.proofs.Lists.{StandsIn, with_in, length_push, length_middle}
+use Rattle.flight_facts.proofs.Pieces.{same_units, more_pieces}
 use Rattle.flight_facts.proofs.Stages.{flight_for, sends_paid, not_sent_next}
 use Rattle.flight_facts.proofs.Runs.{check_few}
 use Rattle.flight_facts.proofs.RunUnits.{IsRunOf}
-use Rattle.flight_facts.proofs.Choosing.{IsFirst, chosen_first}
+use Rattle.flight_facts.proofs.Picking.{ArePicked, picked, all_picked, sum_picked, count_picked}
+use Rattle.flight_facts.proofs.Needs.{needs_both, sum_both, needs_most, work_least}
 use Rattle.flight_facts.proofs.Matching.{behind_first, no_switch, IsMadeFar, made_far, begun_far}
 use Rattle.flight_facts.proofs.Switching.{IsSwitchOpen, switch_open, rests_batch, check_stage, behind_check}
 use Rattle.flight_facts.proofs.MatchingMore.{next_stands, new_batch}
@@ -48,10 +50,6 @@ pub record Paid (s : State) (d : Disk) (s' : State) (d' : Disk) : Type 0 where
   pub near : IsNear s s'
 
 -- ---- sums over contexts
-
-pub sum_both : (xs ys : List Context) → sum_work (xs ++ ys) ≡ sum_work xs + sum_work ys
-sum_both [] ys = omega arith
-sum_both (x ∷ xs) ys = omega (arith, sum_both xs ys)
 
 sum_middle : (front : List Context) (x : Context) (back : List Context) → sum_work (front ++ x ∷ back) ≡ sum_work front + (work_of x + sum_work back)
 sum_middle front x back = sum_both front (x ∷ back)
@@ -160,30 +158,28 @@ module _ (s : State) (d : Disk) where
   take_batch_pays : (s' : State) (d' : Disk) → AreFlights s.flying d.flights → FlightsMatch s d.flights → AllByRecursion (λ x. FitsRecord (intent_of x)) s.pending
       → s.batch ≡ None → OpensBatch s d s' d' → Paid s d s' d'
   take_batch_pays s' d' mirror m fits none does =
-      let x : Context = does.context in
-      let at : IsFirst [] x s.pending = chosen_first [] s.pending x does.is_chosen in
-      let here : s.pending ≡ at.front ++ x ∷ at.back = at.is in
-      let then : without_context x.place s.pending ≡ at.front ++ at.back = without_in at.front x at.back s.pending here m.places.ascend in
-      let fits_x : FitsRecord (intent_of x) = all_at (λ z. FitsRecord (intent_of z)) at.front x at.back s.pending here fits in
+      let ys : List Context = choice most_grouped s.pending in
+      let left : List Context = left_by most_grouped s.pending in
+      let are : ArePicked s.pending ys left = picked most_grouped s.pending m.places.ascend in
       let begun : s.log.begun ≡ None = (rests_batch s d.flights m none).0 in
-      let pieces : piece_count (unit_count s.log.number (x.ops ++ [])) ≡ piece_count x.need =
-      ap (λ (ops : List RowOp). piece_count (unit_count s.log.number ops)) (append-nil x.ops) ∙ ap piece_count (fits_x.need s.log.number) in
-      let more : length (s.book.commits ++ commit_of x ∷ []) ≡ length s.book.commits + 1 = length_push s.book.commits (commit_of x) in
+      let units : ℕ = units_taken s in
+      let needed : units ≤ sum_needs ys = needs_most s.log.number ys does.some (all_picked (λ x. FitsRecord (intent_of x)) s.pending ys left are fits).0 in
+      let more : length (s.book.commits ++ map commit_of ys) ≡ length s.book.commits + length ys =
+      length-append s.book.commits (map commit_of ys) ∙ ap (λ (n : ℕ). length s.book.commits + n) (length-map ys commit_of) in
       subst (λ (t : State). Paid s d t d') (sym does.after) (record {
-        falls = less (length s.flying) (sum_work s.pending) (sum_work (without_context x.place s.pending)) (sum_work at.front) (sum_work at.back)
-            (2 * (length x.fresh - x.given)) (piece_count x.need) (piece_count (unit_count s.log.number (x.ops ++ [])))
-            (option_map_or (batch_work s.log) s.batch 0) (batch_work s.log (new_batch x)) (option_map_or (switch_work s.log) s.switching (check_due s.log))
-            (length s.book.commits) (length (s.book.commits ++ commit_of x ∷ [])) s.acked (applied_count s)
-            (ap sum_work here ∙ sum_middle at.front x at.back) (ap sum_work then ∙ sum_both at.front at.back) pieces
+        falls = less (length s.flying) (sum_work s.pending) (sum_work ys) (sum_work left) (piece_count (sum_needs ys)) (piece_count units) (length ys)
+            (option_map_or (batch_work s.log) s.batch 0) (batch_work s.log (new_batch ys)) (option_map_or (switch_work s.log) s.switching (check_due s.log))
+            (length s.book.commits) (length (s.book.commits ++ map commit_of ys)) s.acked (applied_count s)
+            (sum_picked sum_work sum_both s.pending ys left are) (work_least ys does.some) (more_pieces units (sum_needs ys) needed)
             (ap (λ (o : Option Batch). option_map_or (batch_work s.log) o 0) none)
-            (ap (λ (o : Option Begun). let k : Meta = record s.log { begun = o } in batch_work k (new_batch x)) begun) more
+            (ap (λ (o : Option Begun). let k : Meta = record s.log { begun = o } in batch_work k (new_batch ys)) begun) more
             (ap (λ (o : Option Batch). length s.book.commits - option_map_or (λ (b : Batch). length b.contexts) o 0) none);
         flights = subst (λ (e : Disk). AreFlights s.flying e.flights) (sym does.same) mirror;
         units = ap (λ (e : Disk). e.units) does.same;
         near = record {
           entries = refl;
-          under = same (length s.book.commits) (length (s.book.commits ++ commit_of x ∷ [])) _ _ _ more
-              (ap (λ (xs : List Context). length xs) here ∙ length_middle at.front x at.back) (ap (λ (xs : List Context). length xs) then);
+          under = same (length s.book.commits) (length (s.book.commits ++ map commit_of ys)) (length s.pending) (length ys) (length left) more
+              (count_picked s.pending ys left are);
           events = omega arith;
           number = omega arith;
           epoch = omega arith;
@@ -192,31 +188,31 @@ module _ (s : State) (d : Disk) where
         };
       })
     where
-      less : (flies work work' front back units need pieces batch batch' switch commits commits' acked applied : ℕ)
-          → work ≡ front + ((units + 8 + 2 * need + check_most) + back) → work' ≡ front + back → pieces ≡ need → batch ≡ 0
-          → batch' ≡ (2 + (2 * (pieces - 0) + (2 + 0))) + 1 + 1 + 1 + check_most → commits' ≡ commits + 1 → applied ≡ commits - 0
-          → flies + work' + batch' + switch + ((commits' - 1) - acked) < flies + work + batch + switch + (applied - acked)
-      less flies work work' front back units need pieces batch batch' switch commits commits' acked applied was then same none opened more is =
-          omega (arith, was, then, same, none, opened, more, is)
+      less : (flies work own work' needs pieces count batch batch' switch commits commits' acked applied : ℕ)
+          → work ≡ own + work' → 2 * needs + count + 7 + check_most ≤ own → pieces ≤ needs → batch ≡ 0
+          → batch' ≡ (2 + (2 * (pieces - 0) + (2 + 0))) + 1 + 1 + count + check_most → commits' ≡ commits + count → applied ≡ commits - 0
+          → flies + work' + batch' + switch + ((commits' - count) - acked) < flies + work + batch + switch + (applied - acked)
+      less flies work own work' needs pieces count batch batch' switch commits commits' acked applied was pay few none opened more is =
+          omega (arith, was, pay, few, none, opened, more, is)
 
-      same : (commits commits' waiting waiting' rest : ℕ) → commits' ≡ commits + 1 → waiting ≡ rest + 1 → waiting' ≡ rest
-          → commits' + waiting' ≡ commits + waiting
-      same commits commits' waiting waiting' rest more was then = omega (arith, more, was, then)
+      same : (commits commits' waiting taken left : ℕ) → commits' ≡ commits + taken → waiting ≡ taken + left → commits' + left ≡ commits + waiting
+      same commits commits' waiting taken left more cut = omega (arith, more, cut)
 
-  -- a checkpoint is due where the record of a context is too long behind the tail, since there is room for it behind the rows
+  -- a checkpoint is due where the record of those that come next is too long behind the tail, since there is room for it behind the rows
   take_check_pays : (s' : State) (d' : Disk) → AreFlights s.flying d.flights → FlightsMatch s d.flights → AllByRecursion (λ x. FitsRecord (intent_of x)) s.pending
       → HasCheckRoom s.log s.pending → s.switching ≡ None → OpensCheck s d s' d' → Paid s d s' d'
   take_check_pays s' d' mirror m fits room none does =
-      let x : Context = does.context in
-      let at : IsFirst [] x s.pending = chosen_first [] s.pending x does.is_chosen in
+      let ys : List Context = choice most_grouped s.pending in
+      let left : List Context = left_by most_grouped s.pending in
+      let are : ArePicked s.pending ys left = picked most_grouped s.pending m.places.ascend in
       let units : ℕ = check_units s.log.number s.log.rows in
-      let fits_x : FitsRecord (intent_of x) = all_at (λ z. FitsRecord (intent_of z)) at.front x at.back s.pending at.is fits in
-      let room_x : units + x.need ≤ s.log.sup.half = all_at (λ z. units + z.need ≤ s.log.sup.half) at.front x at.back s.pending at.is room.rows in
+      let needed : units_taken s ≤ sum_needs ys = needs_most s.log.number ys does.some (all_picked (λ x. FitsRecord (intent_of x)) s.pending ys left are fits).0 in
       let behind : units < s.log.tail =
-      longer units x.need s.log.sup.half s.log.tail (unit_count s.log.number x.ops) room_x does.too_long (fits_x.need s.log.number) in
+      longer units (sum_needs s.pending) (sum_needs ys) (sum_needs left) s.log.sup.half s.log.tail (units_taken s) room.rows
+      (sum_picked sum_needs needs_both s.pending ys left are) does.too_long needed in
       let due : check_due s.log ≡ check_most =
       ap (λ (t : Bool). cond t 0 check_most) (ne_eqb s.log.tail units (apart units s.log.tail behind)) in
-      let few : 2 * length (check_pieces s.log) + 7 < check_most = check_few s.log room.half (shorter units x.need s.log.sup.half room_x) room.stale in
+      let few : 2 * length (check_pieces s.log) + 7 < check_most = check_few s.log room.half (shorter units (sum_needs s.pending) s.log.sup.half room.rows) room.stale in
       subst (λ (t : State). Paid s d t d') (sym does.after) (record {
         falls = less (length s.flying) (sum_work s.pending) (option_map_or (batch_work s.log) s.batch 0)
             (option_map_or (switch_work s.log) s.switching (check_due s.log)) (length (check_pieces s.log)) (applied_count s - s.acked)
@@ -226,8 +222,8 @@ module _ (s : State) (d : Disk) where
         near = record { entries = refl; under = refl; events = omega arith; number = omega arith; epoch = omega arith; stale = inl refl; up = refl };
       })
     where
-      longer : (units need half tail taken : ℕ) → units + need ≤ half → half < tail + taken → taken ≡ need → units < tail
-      longer units need half tail taken room long is = omega (arith, room, long, is)
+      longer : (units all needs rest half tail taken : ℕ) → units + all ≤ half → all ≡ needs + rest → half < tail + taken → taken ≤ needs → units < tail
+      longer units all needs rest half tail taken room cut long few = omega (arith, room, cut, long, few)
 
       shorter : (units need half : ℕ) → units + need ≤ half → units ≤ half
       shorter units need half room = omega (arith, room)

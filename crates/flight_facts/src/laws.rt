@@ -32,7 +32,7 @@ pub fn steps_match()
 {}
 
 /// What a step leaves, whatever is known of the state that it meets: at the device nothing, a submission, the end of one, or an answer None; the
-/// book as it was, but for the commit of a batch that is opened, and an acknowledgement. Whether the kernel is down changes by a bad end alone.
+/// book as it was, but for the commits of a batch that is opened, and an acknowledgement. Whether the kernel is down changes by a bad end alone.
 pub fn a_step_leaves_device_and_book()
     ensures device { (step : Step) (s : State) (d : Disk) (s' : State) (d' : Disk) → DoesOrFails step s d s' d' → DeviceGoes d d' }
     ensures book { (step : Step) (s : State) (d : Disk) (s' : State) (d' : Disk) → DoesOrFails step s d s' d' → BookStep s s' step }

@@ -175,9 +175,10 @@ impl List {
 
     /// Does the first ready step from one on that is drawn.
     fn step(&mut self) {
-        let start = self.draws.below(14);
-        for more in 0..14u64 {
-            let at = start.wrapping_add(more) % 14;
+        let count = ALL_STEPS.len() as u64;
+        let start = self.draws.below(count);
+        for more in 0..count {
+            let at = start.wrapping_add(more) % count;
             if let Some(step) = ALL_STEPS.get(at as usize)
                 && step_if_ready(self.alloc, &mut self.mounted.kernel, *step).is_some()
             {

@@ -1,23 +1,16 @@
 -- When a batch is taken, when it is sealed, and when it is committed.
-use Rattle.std.specs.Prelude.{◌≡◌, ◌+◌, ◌≤◌, List, [], ◌∷◌, Some, None}
+use Rattle.std.specs.Prelude.{◌≡◌, ◌+◌, ◌≤◌, List, Some, None}
 use Rattle.meta_rows.specs.declared.row_op.RowOp.{RowOp}
 use Rattle.meta_log.specs.Prelude.{unit_count, IsSealable}
 use Rattle.meta_store.specs.Store.{Meta, Begun, piece_count_of}
 use Rattle.store_steps.specs.declared.context.Context.{Context}
 use Rattle.store_steps.specs.declared.flight.FlushState.TheVariants.{Flushed}
-use Rattle.store_steps.specs.Prelude.{Batch, chosen, without_context, batch_ops, sum_needs}
+use Rattle.store_steps.specs.Prelude.{Batch, most_grouped, choice, left_by, batch_ops, sum_needs}
 
--- no context can be taken, and all stay
-pub record TakesNone (old new : List Context) : Type 0 where
-  pub none : chosen old ≡ None
-  pub same : new ≡ old
-
--- the batch has the context that comes next, and the others stay
-pub record TakesOne (old new batch : List Context) : Type 0 where
-  pub context : Context
-  pub is_chosen : chosen old ≡ Some context
-  pub is : batch ≡ context ∷ []
-  pub left : new ≡ without_context context.place old
+-- the batch has the contexts that come next, in the order in which they do, and the others stay
+pub record Takes (old new batch : List Context) : Type 0 where
+  pub is : batch ≡ choice most_grouped old
+  pub left : new ≡ left_by most_grouped old
 
 -- the batch of these contexts, once both its flushes have ended well
 abbrev pub flushed_batch : List Context → Batch

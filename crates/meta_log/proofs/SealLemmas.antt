@@ -1,6 +1,6 @@
 -- The bytes of a record, made part by part, and the bytes of its pieces.
-use Rattle.std.proofs.Common.{◌≡◌, ℕ, ◌+◌, ◌-◌, ◌*◌, ◌<◌, ◌≤◌, List, ◌++◌, length, take, drop, replicate, Result, Ok, Err, OnOk, is_ok}
-use Rattle.std.proofs.Common.{if◌then◌else◌, sym, ap, ap₂, subst, ◌∙◌, arith}
+use Rattle.std.proofs.Common.{◌≡◌, ℕ, zero, suc, ◌+◌, ◌-◌, ◌*◌, ◌<◌, ◌≤◌, List, [], ◌∷◌, ◌++◌, length, get_or, take, drop, replicate, Result, Ok, Err, OnOk, is_ok}
+use Rattle.std.proofs.Common.{if◌then◌else◌, sym, ap, ap₂, ◌∙◌, arith}
 use Rattle.std.specs.declared.alloc.AllocError.{AllocError}
 use Rattle.std.specs.Int.{w32, to_le_bytes}
 use Rattle.std.proofs.lemmas.List.{length-append, take_all}
@@ -8,8 +8,9 @@ use Rattle.crc32c_csum.specs.Prelude.{crc32c}
 use Rattle.byte_maps.specs.Units.{zeros, units_for, units_from, in_units}
 use Rattle.byte_maps.proofs.Prelude.{length-in_units, length-units_from}
 use Rattle.meta_rows.specs.declared.row_op.RowOp.{RowOp}
-use Rattle.meta_rows.specs.Prelude.{ops_bytes}
-use Rattle.meta_log.specs.Prelude.{head_of, record_head, record_bytes, record_units, unit_count, piece_count, piece_first, piece_units, Sealed, IsSealable, IsSpelled, sealed_units, piece_bytes}
+use Rattle.meta_rows.specs.declared.op_cursor.OpCursor.{OpCursor}
+use Rattle.meta_rows.specs.Prelude.{ops_bytes, ops_before}
+use Rattle.meta_log.specs.Prelude.{head_of, record_head, record_bytes, record_units, unit_count, piece_count, piece_first, piece_units, body_before, Sealed, IsSealable, BeginAt, sealed_units, piece_bytes}
 use Rattle.meta_log.proofs.PieceLemmas.{lies}
 
 pub length-record_bytes : (number : ℕ) (ops : List RowOp) → length (record_bytes number ops) ≡ 24 + length (ops_bytes ops)
@@ -48,22 +49,36 @@ record_of_parts number ops body head summed whole all sum body_is head_is sum_is
     in
     all_is ∙ ap in_units r
 
--- a range of bytes that is so many units
-pub units_of_range : (first count : ℕ) (bytes : List ℕ) → take (first * 4096 + count * 4096 - first * 4096) (drop (first * 4096) bytes) ≡ units_from first
-    count bytes
-unfolding units_from
-units_of_range first count bytes =
-    let size : first * 4096 + count * 4096 - first * 4096 ≡ 4096 * count = omega arith in
-    let start : first * 4096 ≡ 4096 * first = omega arith in
-    ap₂ (λ (n m : ℕ). take n (drop m bytes)) size start
+-- ---- where pieces begin
 
-pub as_spelled : (number units : ℕ) (ops held : List RowOp) (bytes : List ℕ) → IsSealable number ops → held ≡ ops → units ≡ unit_count number ops
-    → (64 < units → bytes ≡ record_units number ops) → IsSpelled number held units bytes
-as_spelled number units ops held bytes sealable same counted is = record {
-  sealable = subst (IsSealable number) (sym same) sealable;
-  counted = counted ∙ ap (unit_count number) (sym same);
-  spelled = λ several. is several ∙ ap (record_units number) (sym same);
-}
+pub before_more : (size k : ℕ) → body_before size (64 * k) + (body_before size (64 * (k + 1)) - body_before size (64 * k)) ≡ body_before size (64 * (k + 1))
+before_more size k = omega arith
+
+-- one more
+pub begin_more : (ops : List RowOp) (k : ℕ) (starts : List OpCursor) (at : OpCursor) → BeginAt ops k starts → at.ops ≤ length ops
+    → ops_before ops at ≡ body_before (length (ops_bytes ops)) (64 * (k + length starts)) → BeginAt ops k (starts ++ at ∷ [])
+begin_more ops k [] at so_far within place = (within, place ∙ ap (λ n. body_before (length (ops_bytes ops)) (64 * n)) (omega arith), tt)
+begin_more ops k (first ∷ starts) at so_far within place =
+    (so_far.0, so_far.1, begin_more ops (k + 1) starts at so_far.2 within (place ∙ ap (λ n. body_before (length (ops_bytes ops)) (64 * n)) (omega arith)))
+
+-- one of them
+pub begins_at : (ops : List RowOp) (k i : ℕ) (starts : List OpCursor) (default : OpCursor) → BeginAt ops k starts → i < length starts
+    → ((get_or starts i default).ops ≤ length ops) × (ops_before ops (get_or starts i default) ≡ body_before (length (ops_bytes ops)) (64 * (k + i)))
+begins_at ops k i [] default begin there = absurd (omega (arith, there))
+begins_at ops k zero (at ∷ more) default begin there = (begin.0, begin.1 ∙ ap (λ n. body_before (length (ops_bytes ops)) (64 * n)) (omega arith))
+begins_at ops k (suc i) (at ∷ more) default begin there =
+    let rest = begins_at ops (k + 1) i more default begin.2 (omega (arith, there)) in
+    (rest.0, rest.1 ∙ ap (λ n. body_before (length (ops_bytes ops)) (64 * n)) (omega arith))
+
+-- the bytes of the body from there on
+pub body_from : (ops held : List RowOp) (starts : List OpCursor) (piece size : ℕ) (start default : OpCursor) (body : List ℕ) → held ≡ ops → BeginAt ops 0 starts
+    → piece < length starts → start ≡ get_or starts piece default → body ≡ take size (drop (ops_before held start) (ops_bytes held))
+    → body ≡ take size (drop (body_before (length (ops_bytes ops)) (64 * piece)) (ops_bytes ops))
+body_from ops held starts piece size start default body same begin there is body_is =
+    let here : ops_before ops start ≡ body_before (length (ops_bytes ops)) (64 * piece) =
+    ap (ops_before ops) is ∙ (begins_at ops 0 piece starts default begin there).1
+    ∙ ap (λ n. body_before (length (ops_bytes ops)) (64 * n)) (omega arith) in
+    body_is ∙ ap (λ (l : List RowOp). take size (drop (ops_before l start) (ops_bytes l))) same ∙ ap (λ n. take size (drop n (ops_bytes ops))) here
 
 -- the only piece is the record
 pub only_piece : (made : Sealed) (k : ℕ) → sealed_units made ≤ 64 → k < piece_count (sealed_units made)
@@ -75,13 +90,6 @@ only_piece made k few counted =
     let count : sealed_units made ≡ piece_units (sealed_units made) k = omega (arith, few, counted) in
     sym (take_all (4096 * sealed_units made) whole (omega (arith, length-record_units made.number made.ops)))
     ∙ ap₂ (λ (a b : ℕ). take (4096 * b) (drop (4096 * a) whole)) first count
-
-pub piece_is : (made : Sealed) (k first count : ℕ) (bytes : List ℕ) → first ≡ piece_first (sealed_units made) k
-    → count ≡ piece_units (sealed_units made) k → bytes ≡ record_units made.number made.ops
-    → units_from first count bytes ≡ piece_bytes made k
-piece_is made k first count bytes first_is count_is is =
-    ap₂ (λ (a b : ℕ). units_from a b bytes) first_is count_is ∙ ap (λ (b : List ℕ). units_from (piece_first (sealed_units made) k) (piece_units
-    (sealed_units made) k) b) is
 
 -- a piece has its units
 pub length-piece_bytes : (made : Sealed) (k : ℕ) → k < piece_count (sealed_units made) → length (piece_bytes made k) ≡ 4096 * piece_units (sealed_units made) k

@@ -17,6 +17,10 @@ piece_first units k = 64 * (piece_count units - 1 - k)
 abbrev pub piece_units : ℕ → ℕ → ℕ
 piece_units units k = min 64 (units - piece_first units k)
 
+-- how many bytes of a body, of so many, lie before a unit of its record
+abbrev pub body_before : ℕ → ℕ → ℕ
+body_before size unit = min size (4096 * unit - 24)
+
 -- where piece k lies: it ends where the one before it begins, which for the first is the record's end
 pub record LiesInRecord (units k : ℕ) : Type 0 where
   pub some : 0 < piece_units units k

@@ -3,9 +3,9 @@ use Rattle.std.specs.Prelude.{◌≡◌, ◌+◌, ◌++◌, length, take}
 use Rattle.crc32c_csum.specs.Prelude.{all_ones, remainder}
 use Rattle.meta_rows.specs.Prelude.{Rows, ops_bytes, row_sets, bytes_before}
 use Rattle.meta_log.specs.Records.{record_head, unit_count}
-use Rattle.meta_log.specs.Pieces.{given_from}
+use Rattle.meta_log.specs.Pieces.{given_from, body_before}
 use Rattle.meta_log.specs.Sealed.{IsSealable}
-use Rattle.meta_log.specs.RowsRecords.{body_before, body_summed}
+use Rattle.meta_log.specs.RowsRecords.{body_summed}
 use Rattle.meta_log.specs.declared.rows_record.Progress.{Progress}
 
 -- The record of these rows. The bytes of the body behind `front` were given; those before `summed` are in the checksum.

@@ -1,5 +1,5 @@
 -- The record that sets each row of a table, while its pieces are made: what its caller sees, and where its parts lie.
-use Rattle.std.specs.Prelude.{ℕ, ◌-◌, ◌*◌, min}
+use Rattle.std.specs.Prelude.{ℕ, ◌*◌, min}
 use Rattle.std.specs.FinMap as map
 use Rattle.std.specs.Coded.{Coded, coded_ℕ, coded_list}
 use Rattle.meta_rows.specs.Prelude.{Rows, row_sets}
@@ -18,10 +18,6 @@ coded_rows = map.code (coded_list coded_ℕ) (coded_list coded_ℕ)
 abbrev pub sealed_of : TableRecord → Sealed
 sealed_of r = record { number = r.number; ops = row_sets r.rows }
 
--- how many bytes of a body, of so many, lie before a unit of its record
-abbrev pub body_before : ℕ → ℕ → ℕ
-body_before size unit = min size (4096 * unit - 24)
-
--- how many of them the checksum goes over once so many pieces were given
+-- how many bytes of the body, of so many, the checksum goes over once so many pieces were given
 abbrev pub body_summed : ℕ → ℕ → ℕ
 body_summed size given = min size (262144 * given)

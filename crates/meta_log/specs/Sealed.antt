@@ -1,10 +1,13 @@
 -- A record before it is written.
-use Rattle.std.specs.Prelude.{◌≡◌, ℕ, ◌<◌, ◌^◌, List, length}
+use Rattle.std.specs.Prelude.{◌≡◌, ℕ, ◌+◌, ◌*◌, ◌<◌, ◌≤◌, ◌^◌, List, [], ◌∷◌, ◌++◌, length}
 use Rattle.byte_maps.specs.Units.{units_from}
 use Rattle.meta_rows.specs.declared.row_op.RowOp.{RowOp}
-use Rattle.meta_rows.specs.Prelude.{ops_bytes, AllFit}
-use Rattle.meta_log.specs.Records.{record_units, unit_count}
-use Rattle.meta_log.specs.Pieces.{piece_first, piece_units}
+use Rattle.crc32c_csum.specs.Prelude.{crc32c}
+use Rattle.meta_rows.specs.declared.op_cursor.OpCursor.{OpCursor}
+use Rattle.meta_rows.specs.Prelude.{ops_bytes, ops_before, AllFit}
+use Rattle.meta_log.specs.declared.sealed.Cut.{Cut}
+use Rattle.meta_log.specs.Records.{record_head, record_units, unit_count}
+use Rattle.meta_log.specs.Pieces.{piece_count, piece_first, piece_units, body_before}
 
 -- a record's number, and its operations
 pub record Sealed : Type 0 where
@@ -25,8 +28,21 @@ sealed_units made = unit_count made.number made.ops
 abbrev pub piece_bytes : Sealed → ℕ → List ℕ
 piece_bytes made k = units_from (piece_first (sealed_units made) k) (piece_units (sealed_units made) k) (record_units made.number made.ops)
 
--- the record of this number and these operations has so many units, and these are its bytes where it has several pieces
-pub record IsSpelled (number : ℕ) (ops : List RowOp) (units : ℕ) (bytes : List ℕ) : Type 0 where
+-- These are the places where the pieces from this one on begin among the operations, counted from the one with the head.
+abbrev pub BeginAt : List RowOp → ℕ → List OpCursor → Type 0
+BeginAt ops k [] = Unit {0}
+BeginAt ops k (at ∷ more) =
+    (at.ops ≤ length ops) × (ops_before ops at ≡ body_before (length (ops_bytes ops)) (64 * k)) × BeginAt ops (k + 1) more
+
+-- the cut of the record of this number and these operations
+pub record IsCutInto (number : ℕ) (ops : List RowOp) (c : Cut) : Type 0 where
+  pub counted : length c.starts.items ≡ piece_count (unit_count number ops)
+  pub begin : BeginAt ops 0 c.starts.items
+  pub sum : c.sum ≡ crc32c (record_head number ops ++ ops_bytes ops)
+
+-- the record of this number and these operations: its body has so many bytes, it has so many units, and several pieces are cut so
+pub record IsSpelled (number : ℕ) (ops : List RowOp) (size units : ℕ) (c : Cut) : Type 0 where
   pub sealable : IsSealable number ops
+  pub sized : size ≡ length (ops_bytes ops)
   pub counted : units ≡ unit_count number ops
-  pub spelled : 64 < units → bytes ≡ record_units number ops
+  pub several : 64 < units → IsCutInto number ops c

@@ -6,25 +6,23 @@
 //! the body is spelled twice, and a piece costs what it is long, however many rows there are.
 //!
 //! The table is given again with each call, and must have the same rows.
-ghost use Rattle.std.specs.Prelude.{◌≡◌, ◌+◌, ◌*◌, ◌^◌, ◌<◌, ◌≤◌, ◌++◌, take, drop, bit_xor, IfOk};
-ghost use Rattle.std.specs.Int.{w32, to_le_bytes};
+ghost use Rattle.std.specs.Prelude.{◌≡◌, ◌+◌, ◌*◌, ◌<◌, ◌≤◌, ◌++◌, take, drop, IfOk};
 ghost use Rattle.byte_maps.specs.Units.{units_from};
 ghost use Rattle.crc32c_csum.specs.Prelude.{all_ones, remainder};
 ghost use Rattle.meta_rows.specs.Prelude.{ops_bytes, row_sets, bytes_before};
-ghost use Rattle.meta_log.specs.Records.{head_of, record_head, record_bytes, record_units};
+ghost use Rattle.meta_log.specs.Records.{record_head, record_bytes, record_units};
 ghost use Rattle.meta_log.specs.Pieces.{piece_count, given_from, piece_first, piece_units};
 ghost use Rattle.meta_log.specs.Sealed.{IsSealable, sealed_units, piece_bytes};
-ghost use Rattle.meta_log.specs.RowsRecords.{body_before, body_summed, sealed_of};
+ghost use Rattle.meta_log.specs.RowsRecords.{body_summed, sealed_of};
 ghost use Rattle.meta_log.specs.RowsInside.{IsRecordOf, IsOneOn};
 
-use crate::sealed::{HEAD_BYTES, push_head, units_of};
+use crate::sealed::{HEAD_BYTES, body_before, head_digest, headed, pieces_of, units_of};
 use crc32c_csum::Digest;
 use meta_rows::{RowCursor, RowTable};
 use std::alloc::{AllocError, Global};
 use std::marker::Model;
 use std::snapshot::Snapshot;
 use unit_fields::limits::{PIECE_UNITS, UNIT_BYTES};
-use unit_fields::push_u32_le;
 
 // The most bytes of a piece.
 const PIECE_BYTES: usize = PIECE_UNITS as usize * UNIT_BYTES;
@@ -77,17 +75,6 @@ pub struct RowsPiece {
     pub then: RowsRecord,
 }
 
-// The checksum in the making, over a head.
-fn head_digest(alloc: Global, number: u64, count: u32, size: u32) -> Result<Digest, AllocError>
-    ensures { IfOk result (λ digest. digest ≡ remainder all_ones (head_of number count size)) }
-{
-    let mut head = Vec::with_capacity(alloc, HEAD_BYTES)?;
-    push_head(&mut head, number, count, size)?;
-    let mut digest = Digest::new();
-    digest.update(&head);
-    Ok(digest)
-}
-
 impl Progress {
     // The record of a table's rows under this number, before its first piece.
     fn begin(alloc: Global, number: u64, rows: &RowTable) -> Result<Progress, AllocError>
@@ -114,7 +101,7 @@ impl Progress {
     fn pieces(&self) -> u32
         ensures { result ≡ piece_count self.now.units }
     {
-        (self.units / PIECE_UNITS) + u32::from(self.units % PIECE_UNITS != 0)
+        pieces_of(self.units)
     }
 
     // The first unit of the next piece.
@@ -125,15 +112,7 @@ impl Progress {
         (self.pieces() - 1 - self.given) * PIECE_UNITS
     }
 
-    // How many bytes of the body lie before a unit.
-    fn body_before(&self, unit: u32) -> usize
-        ensures { result ≡ body_before self.now.size unit }
-    {
-        let bytes = unit as usize * UNIT_BYTES;
-        self.size.min(bytes.saturating_sub(HEAD_BYTES))
-    }
-
-    // How many of them the checksum goes over once so many pieces were given.
+    // How many bytes of the body the checksum goes over once so many pieces were given.
     fn body_summed(&self, given: u32) -> usize
         ensures { result ≡ body_summed self.now.size given }
     {
@@ -172,7 +151,7 @@ impl Progress {
         ensures on { IfOk result (IsOneOn self.now) }
     {
         let (summed, digest) = self.sum_on(alloc, rows)?;
-        let size = self.body_before(first + count) - self.body_before(first);
+        let size = body_before(self.size, first + count) - body_before(self.size, first);
         let front = rows.before(alloc, &self.front, size)?;
         Ok(Progress {
             number: self.number,
@@ -184,20 +163,6 @@ impl Progress {
             summed,
             digest,
         })
-    }
-
-    // The head, the checksum as it is now, and bytes of the body.
-    fn headed(&self, alloc: Global, body: &[u8]) -> Result<Vec<u8>, AllocError>
-        requires { self.now.size < 2 ^ 32 }
-        ensures { IfOk result (λ bytes. bytes.items ≡ head_of self.now.number self.now.count self.now.size ++
-            to_le_bytes w32 (bit_xor self.now.digest all_ones) ++ body.now) }
-    {
-        let mut bytes = Vec::with_capacity(alloc, body.len().saturating_add(HEAD_BYTES))?;
-        push_head(&mut bytes, self.number, self.count, self.size as u32)?;
-        let digest = self.digest;
-        push_u32_le(&mut bytes, digest.finish())?;
-        bytes.extend_from_slice(body)?;
-        Ok(bytes)
     }
 
     // The bytes of so many units from the first one on that was given, without the zeros that fill up the last.
@@ -215,10 +180,18 @@ impl Progress {
         ensures { IfOk result (λ bytes. bytes.items ≡ take (4096 * count) (drop (4096 * first)
             (record_bytes self.now.number (row_sets rows.now.rows)))) }
     {
-        let size = self.body_before(first + count) - self.body_before(first);
+        let size = body_before(self.size, first + count) - body_before(self.size, first);
         let body = rows.spelled(alloc, &self.front, size)?;
         if first == 0 {
-            self.headed(alloc, &body)
+            let digest = self.digest;
+            headed(
+                alloc,
+                self.number,
+                self.count,
+                self.size as u32,
+                digest.finish(),
+                &body,
+            )
         } else {
             Ok(body)
         }

@@ -15,3 +15,4 @@ pub mod OpReading
 pub mod SetLemmas
 pub mod FitLemmas
 pub mod CursorLemmas
+pub mod OpCursorLemmas

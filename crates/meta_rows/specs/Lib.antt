@@ -7,4 +7,5 @@ pub mod Merging
 pub mod Reading
 pub mod Sets
 pub mod Cursors
+pub mod OpCursors
 pub mod Prelude

@@ -8,3 +8,4 @@ pub use Rattle.meta_rows.specs.Merging.{FirstNotBelow, TakesBelow, ops_left, IsM
 pub use Rattle.meta_rows.specs.Reading.{IsValue, BeginsWithNo, Reads, SpellOps}
 pub use Rattle.meta_rows.specs.Sets.{sets_of, row_sets, RowsFit}
 pub use Rattle.meta_rows.specs.Cursors.{bytes_before, rows_on, StandsIn, TakesLast, part_with, HasCome}
+pub use Rattle.meta_rows.specs.OpCursors.{ops_before}

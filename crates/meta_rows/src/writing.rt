@@ -54,7 +54,7 @@ fn push_op(out: &mut Vec<u8>, op: &RowOp) -> Result<(), AllocError>
     }
 }
 
-fn op_len(op: &RowOp) -> usize
+pub(crate) fn op_len(op: &RowOp) -> usize
     ensures { length (op_bytes op.now) < 2 ^ 64 → result ≡ length (op_bytes op.now) }
 {
     match op {

@@ -6,14 +6,11 @@ ghost use Rattle.meta_log.specs.Prelude.{IsSealable, piece_count, sealed_units, 
 ghost use Rattle.meta_store.specs.Checks.{record_left, units_left, left_bytes, left_then};
 ghost use Rattle.meta_store.specs.StoreInside.{IsOpen};
 
-use meta_log::{RowsRecord, UnitRun, check_runs};
+use meta_log::{HEAD_BYTES, RowsRecord, UnitRun, check_runs};
 use meta_rows::RowTable;
 use std::alloc::{AllocError, Global};
 use unit_fields::UnitNo;
 use unit_fields::limits::UNIT_BYTES;
-
-// The bytes of a record before its operations.
-const HEAD_BYTES: usize = 24;
 
 /// A piece of a checkpoint: the unit of the device from which on it goes, its bytes, and what is left of the record of the rows once it is
 /// given, for `note_check_given`.

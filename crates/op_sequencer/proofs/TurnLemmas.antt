@@ -1,8 +1,8 @@
 -- Turns whose places ascend: where a place stands, and what a change of it and a further turn leave.
-use Rattle.std.proofs.Common.{◌≡◌, inl, inr, ℕ, zero, suc, ◌+◌, ◌<◌, ◌≤◌, ◌==◌, Bool, true, false, cond, List, [], ◌∷◌, ◌++◌, length, drop, get_or, set, refl, sym, ap, subst, ◌∙◌, arith}
-use Rattle.std.proofs.lemmas.Bool.{eq-eqb, ne_eqb, eqb-true, or_cases, false≢true}
+use Rattle.std.proofs.Common.{◌≡◌, inl, inr, ℕ, zero, suc, ◌+◌, ◌<◌, ◌≤◌, ◌==◌, Bool, true, false, cond, List, [], ◌∷◌, ◌++◌, length, drop, get_or, set, Option, Some, None, refl, sym, ap, subst, ◌∙◌, arith}
+use Rattle.std.proofs.lemmas.Bool.{cases_lt, eq-eqb, ne_eqb, eqb-true, or_cases, false≢true}
 use Rattle.op_sequencer.specs.declared.sequencer.Turn.{Turn}
-use Rattle.op_sequencer.specs.Turns.{AscendFrom, IsAboveAll, IsTurnAt, has_turn, done_at}
+use Rattle.op_sequencer.specs.Turns.{AscendFrom, IsAboveAll, IsTurnAt, has_turn, done_at, ready, behind}
 
 -- ---- a place below all others
 
@@ -76,6 +76,37 @@ set_is_done place least (suc i) (t ∷ ts) x up at is =
     ap (λ (l : List Turn). t ∷ l) (set_is_done place (t.place + 1) i ts x up.1 (record { within = omega (arith, at.within); has = at.has }) is)
     ∙ ap (λ (b : Bool). cond b (record t { done = true }) t ∷ done_at place ts)
     (sym (ne_eqb t.place place (λ e. absurd (omega (arith, e, at.has t, from_least (t.place + 1) ts i t up.1 (omega (arith, at.within)))))))
+
+-- ---- the turns behind a place
+
+by_index : (place least i : ℕ) (ts : List Turn) → AscendFrom least ts → IsTurnAt place i ts → behind place ts ≡ drop (suc i) ts
+by_index place least i [] up at = absurd (omega (arith, at.within))
+by_index place least zero (t ∷ ts) up at = ap (λ (b : Bool). cond b ts (behind place ts)) (eq-eqb t.place place (at.has t))
+by_index place least (suc i) (t ∷ ts) up at =
+    ap (λ (b : Bool). cond b ts (behind place ts))
+    (ne_eqb t.place place (λ e. absurd (omega (arith, e, at.has t, from_least (t.place + 1) ts i t up.1 (omega (arith, at.within))))))
+    ∙ by_index place (t.place + 1) i ts up.1 (record { within = omega (arith, at.within); has = at.has })
+
+pub behind_at : (place i : ℕ) (ts : List Turn) → AscendFrom 0 ts → IsTurnAt place i ts → behind place ts ≡ drop (i + 1) ts
+behind_at place i ts up at = by_index place 0 i ts up at ∙ ap (λ (n : ℕ). drop n ts) next
+  where
+    next : suc i ≡ i + 1
+    next = omega arith
+
+pub ready_none : (i : ℕ) (ts : List Turn) → length ts ≤ i → ready (drop i ts) ≡ None
+ready_none zero [] le = refl
+ready_none (suc i) [] le = refl
+ready_none zero (t ∷ ts) le = absurd (omega (arith, le))
+ready_none (suc i) (t ∷ ts) le = ready_none i ts (omega (arith, le))
+
+-- where nothing is found at an index
+pub none_got : (i count : ℕ) → (i + 1 < count → false ≡ true) → count ≤ i + 1
+none_got i count none = elim (cases_lt (i + 1) count) [ inl lt ↦ absurd (false≢true (none lt)) | inr le ↦ omega (arith, le) ]
+
+pub ready_at : (i : ℕ) (ts : List Turn) (x : Turn) → i < length ts → x ≡ get_or ts i x → ready (drop i ts) ≡ cond x.done (Some x.place) None
+ready_at i [] x lt is = absurd (omega (arith, lt))
+ready_at zero (t ∷ ts) x lt is = ap (λ (y : Turn). cond y.done (Some y.place) None) (sym is)
+ready_at (suc i) (t ∷ ts) x lt is = ready_at i ts x (omega (arith, lt)) is
 
 place_stays : (b : Bool) (t : Turn) → (cond b (record t { done = true }) t).place ≡ t.place
 place_stays true t = refl

@@ -35,6 +35,11 @@ abbrev pub ready : List Turn → Option ℕ
 ready [] = None
 ready (t ∷ ts) = if t.done then Some t.place else None
 
+-- the turns behind the one of this place
+abbrev pub behind : ℕ → List Turn → List Turn
+behind place [] = []
+behind place (t ∷ ts) = if t.place == place then ts else behind place ts
+
 -- the turns without the first, if it is done
 abbrev pub without_ready : List Turn → List Turn
 without_ready [] = []

@@ -1,6 +1,6 @@
 //! The contexts of one collection, in order of submission.
 ghost use Rattle.std.specs.Prelude.{◌≡◌, ◌↔◌, ◌++◌, ◌∷◌, [], true, IsTrue, OnOk, OnErr};
-ghost use Rattle.op_sequencer.specs.Turns.{AscendFrom, IsAboveAll, IsTurnAt, has_turn, done_at, ready, without_ready};
+ghost use Rattle.op_sequencer.specs.Turns.{AscendFrom, IsAboveAll, IsTurnAt, has_turn, done_at, ready, behind, without_ready};
 
 use std::alloc::{AllocError, Global};
 use std::collections::VecDeque;
@@ -100,6 +100,16 @@ impl Sequencer {
             Some(first) if first.done => Some(first.place),
             _ => None,
         }
+    }
+
+    /// The place of the context behind the one at this place, if it is done.
+    pub fn ready_behind(&self, place: u32) -> Option<u32>
+        requires { has_turn place self.now ≡ true }
+        ensures { result ≡ ready (behind place self.now) }
+    {
+        let at = index_of(&self.turns, place);
+        let next = self.turns.get(at + 1)?;
+        if next.done { Some(next.place) } else { None }
     }
 
     /// Takes the first context out, if it is done, and gives its place.

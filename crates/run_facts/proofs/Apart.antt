@@ -20,8 +20,14 @@ taken_both : (xs ys : List Context) → taken_by (xs ++ ys) ≡ taken_by xs ++ t
 taken_both [] ys = refl
 taken_both (x ∷ xs) ys = ap (λ us. units_of x.fresh ++ us) (taken_both xs ys) ∙ sym (append_assoc (units_of x.fresh) (taken_by xs) (taken_by ys))
 
-times_both : (u : ℕ) (xs ys : List Context) → times u (taken_by (xs ++ ys)) ≡ times u (taken_by xs) + times u (taken_by ys)
+pub times_both : (u : ℕ) (xs ys : List Context) → times u (taken_by (xs ++ ys)) ≡ times u (taken_by xs) + times u (taken_by ys)
 times_both u xs ys = ap (times u) (taken_both xs ys) ∙ times_append u (taken_by xs) (taken_by ys)
+
+-- where each unit was taken once, what the first ones took is none of what those behind them took
+pub lists_apart : (front back : List Context) → ((u : ℕ) → times u (taken_by (front ++ back)) ≤ 1) → (u : ℕ) → Contains (taken_by front) u
+    → Contains (taken_by back) u → ⊥
+lists_apart front back once u one two =
+    omega (arith, times_some u (taken_by front) one, times_some u (taken_by back) two, times_both u front back, once u)
 
 -- a unit that isn't among these is none that they gave
 none_of : (k u : ℕ) (fs : List FreshUnit) → (Contains (units_of fs) u → ⊥) → IsNone (take k fs) u
@@ -81,18 +87,12 @@ module _ (s : State) (d : Disk) (kept : IsKept s d) (up : s.down ≡ None) where
   abbrev kept_up : IsKeptUp s d
   kept_up = kept.up up
 
-  taken_once : (u : ℕ) → times u (taken_by (uncommitted s)) ≤ 1
+  pub taken_once : (u : ℕ) → times u (taken_by (uncommitted s)) ≤ 1
   taken_once u = subst (λ us. times u us ≤ 1) (flat_intents (λ x. units_of x.fresh) (uncommitted s)) (kept_up.rows.apart.apart u)
 
   -- what the first ones took is none of what those behind them took
   pub parts_apart : (front back : List Context) → uncommitted s ≡ front ++ back → (u : ℕ) → Contains (taken_by front) u → Contains (taken_by back) u → ⊥
-  parts_apart front back are u one two = omega (
-    arith,
-    times_some u (taken_by front) one,
-    times_some u (taken_by back) two,
-    times_both u front back,
-    subst (λ (xs : List Context). times u (taken_by xs) ≤ 1) are (taken_once u),
-  )
+  parts_apart front back are = lists_apart front back (λ u. subst (λ (xs : List Context). times u (taken_by xs) ≤ 1) are (taken_once u))
 
   -- so it is with the contexts of the batch and those that wait
   pub batch_apart : (b : Batch) → s.batch ≡ Some b → (u : ℕ) → Contains (taken_by b.contexts) u → Contains (taken_by s.pending) u → ⊥

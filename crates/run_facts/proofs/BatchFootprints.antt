@@ -1,24 +1,29 @@
 -- The footprints of the steps of a batch: Take, Flush, Seal, Record, Sync; and of Finish.
 use Rattle.std.proofs.Common.{◌≡◌, inl, inr, true, ℕ, ◌+◌, ◌-◌, ◌*◌, ◌≤◌, List, [], ◌∷◌, ◌++◌, length, Option, Some, None, refl, sym, ap, subst, ◌∙◌, arith, length-append, map, take}
-use Rattle.run_facts.proofs.Common.{option_map_or, Disk, RowOp, unit_count, record_units, active_unit, piece_first, piece_units, given_from, LiesInRecord, Context, FreshUnit, Begun, Ascends}
+use Rattle.run_facts.proofs.Common.{option_map_or, Disk, RowOp, unit_count, record_units, active_unit, piece_first, piece_units, given_from, LiesInRecord, Context, FreshUnit, Begun, Commit}
 use Rattle.byte_maps.specs.Units.{units_from}
 use Rattle.meta_log.proofs.PieceLemmas.{given_from-none}
 use Rattle.log_facts.specs.Prelude.{not_sent}
 use Rattle.store_steps.specs.declared.step.Step.TheVariants as step
-use Rattle.store_steps.specs.Prelude.{Batch, State, batch_ops, finished, taken_up, flush_sent, sync_sent, commit_of, acknowledged, is_ready, OpensBatch, DoesTake, DoesFlush, DoesSeal, DoesRecord, DoesSync, DoesFinish, piece_unit, piece_bytes, uncommitted, given_fresh, begun_ops, submitted_from, second_flush, Intent, intent_of, intents, is_in, data_part, half_part, book_part, Adds, nothing, flushes, on_half, Touch, IsPlaced, Footprint}
+use Rattle.store_steps.specs.Prelude.{Batch, State, batch_ops, finished, taken_up, choice, left_by, most_grouped, flush_sent, sync_sent, commit_of, acknowledged, is_ready, OpensBatch, DoesTake, DoesFlush, DoesSeal, DoesRecord, DoesSync, DoesFinish, piece_unit, piece_bytes, uncommitted, all_fresh, given_fresh, begun_ops, submitted_from, second_flush, intents, is_in, data_part, half_part, book_part, Adds, nothing, flushes, on_half, Touch, IsPlaced, Footprint}
 use Rattle.store_steps.specs.RowsGo as rows
 use Rattle.store_steps.specs.DataGoes as units
 use Rattle.store_steps.specs.HalfGoes as half
 use Rattle.store_steps.specs.BookGoes as book
+use Rattle.store_steps.specs.BookGoes.{commits_of}
 use Rattle.switch_facts.specs.OtherGoes as other
-use Rattle.flight_facts.proofs.Prelude.{seal_none, ready_not_down, ready_by_table, acknowledged_length, unsealed_second, record_second, sync_begun, IsFirst, chosen_first, without_in}
+use Rattle.flight_facts.proofs.Prelude.{seal_none, ready_not_down, ready_by_table, acknowledged_length, unsealed_second, record_second, sync_begun, ArePicked, picked, choice_done, all_picked, each_given}
+use Rattle.flight_facts.specs.Prelude.{IsPartGiven}
 use Rattle.run_facts.specs.Prelude.{IsKept}
 use Rattle.run_facts.proofs.Conditions.{HasRecord, ReadyRecord, number_low, take_none}
 use Rattle.run_facts.proofs.Known.{flush_covers, sync_covers, known_seal, known_record, piece_lies, piece_size}
 use Rattle.run_facts.proofs.OtherHalf.{placed_elsewhere}
 use Rattle.run_facts.proofs.SwitchFootprints.{begin_footprint}
-use Rattle.run_facts.proofs.PartsKept.{book_alone, device_alone, intents_both, given_both}
-use Rattle.space_facts.proofs.Prelude.{first_taken}
+use Rattle.run_facts.proofs.PartsKept.{book_alone, device_alone, given_both}
+use Rattle.run_facts.proofs.CommitFootprint.{given_all}
+use Rattle.run_facts.proofs.Choices.{picked_order, flat_picked}
+use Rattle.std.specs.List.Sorted.{IsPermutation}
+use Rattle.std.proofs.lemmas.List.{length-map}
 use Rattle.selections.specs.Fair.{IsComplete}
 
 -- the device has no part in it
@@ -27,58 +32,77 @@ rests d d' same = (ap (λ (e : Disk). e.history) same, ap (λ (e : Disk). e.flig
 
 -- ---- Take
 
-module _ (s : State) (x : Context) (none : s.batch ≡ None) (at : IsFirst [] x s.pending) (places : Ascends (map (λ (z : Context). z.place) s.pending)) where
-  pub before_it : uncommitted s ≡ at.front ++ x ∷ at.back
-  before_it = ap (λ (o : Option Batch). option_map_or (λ b. b.contexts) o [] ++ s.pending) none ∙ at.is
+-- their commits are those of their intents
+commits_are : (xs : List Context) → map commit_of xs ≡ commits_of (intents xs)
+commits_are [] = refl
+commits_are (x ∷ xs) = ap (λ (cs : List Commit). commit_of x ∷ cs) (commits_are xs)
 
-  pub behind_it : uncommitted (taken_up x s) ≡ x ∷ (at.front ++ at.back)
-  behind_it = ap (λ (xs : List Context). x ∷ xs) (without_in at.front x at.back s.pending at.is places)
+-- as many are applied as before
+pub part_taken : (s : State) → s.batch ≡ None → (let xs : List Context = choice most_grouped s.pending in book_part (taken_up s)
+    ≡ record (book_part s) { book = record s.book { commits = s.book.commits ++ map commit_of xs }; batch = intents xs })
+part_taken s none = ap (λ (n : ℕ). record (book_part s) {
+  book = record s.book { commits = s.book.commits ++ map commit_of xs };
+  applied = n;
+  batch = intents xs;
+})
+    (less (length s.book.commits) (length xs) (length (s.book.commits ++ map commit_of xs))
+    (length-append s.book.commits (map commit_of xs) ∙ ap (λ (n : ℕ). length s.book.commits + n) (length-map xs commit_of))
+    ∙ ap (λ (o : Option Batch). length s.book.commits - option_map_or (λ (b : Batch). length b.contexts) o 0) (sym none))
+  where
+    xs : List Context
+    xs = choice most_grouped s.pending
 
-  -- it changes places with those of other collections
-  order : IsComplete is_in (intents (uncommitted s)) (intents (uncommitted (taken_up x s)))
-  order = subst (λ (xs : List Intent). IsComplete is_in xs (intents (uncommitted (taken_up x s)))) (sym (ap intents before_it ∙ intents_both at.front (x ∷ at.back)))
-      (subst (λ (xs : List Intent). IsComplete is_in (intents at.front ++ intent_of x ∷ intents at.back) xs)
-      (sym (ap intents behind_it ∙ ap (λ (is : List Intent). intent_of x ∷ is) (intents_both at.front at.back)))
-      (first_taken (intents at.front) (intents at.back) (intent_of x) at.first))
+    less : (n more m : ℕ) → m ≡ n + more → m - more ≡ n - 0
+    less n more m is = omega (arith, is)
 
-  given_before_it : given_fresh (uncommitted s) ≡ given_fresh at.front ++ (take x.given x.fresh ++ given_fresh at.back)
-  given_before_it = ap given_fresh before_it ∙ given_both at.front (x ∷ at.back)
+module _ (s : State) (d : Disk) (kept : IsKept s d) (up : s.down ≡ None) (none : s.batch ≡ None) where
+  abbrev ys : List Context
+  ys = choice most_grouped s.pending
 
-  given_behind_it : given_fresh (uncommitted (taken_up x s)) ≡ take x.given x.fresh ++ (given_fresh at.front ++ given_fresh at.back)
-  given_behind_it = ap given_fresh behind_it ∙ ap (λ (fs : List FreshUnit). take x.given x.fresh ++ fs) (given_both at.front at.back)
+  abbrev left : List Context
+  left = left_by most_grouped s.pending
 
-  applied_as_before : length (s.book.commits ++ commit_of x ∷ []) - 1 ≡ length s.book.commits - option_map_or (λ (b : Batch). length b.contexts) s.batch 0
-  applied_as_before = less (length s.book.commits) (length (s.book.commits ++ commit_of x ∷ [])) (length-append s.book.commits (commit_of x ∷ []))
-      ∙ ap (λ (o : Option Batch). length s.book.commits - option_map_or (λ (b : Batch). length b.contexts) o 0) (sym none)
-    where
-      less : (n m : ℕ) → m ≡ n + 1 → m - 1 ≡ n - 0
-      less n m is = omega (arith, is)
+  are : ArePicked s.pending ys left
+  are = picked most_grouped s.pending (kept.up up).flights.places.ascend
+
+  before : uncommitted s ≡ s.pending
+  before = ap (λ (o : Option Batch). option_map_or (λ b. b.contexts) o [] ++ s.pending) none
+
+  order : IsComplete is_in (intents (uncommitted s)) (intents (ys ++ left))
+  order = subst (λ (xs : List Context). IsComplete is_in (intents xs) (intents (ys ++ left))) (sym before) (picked_order s.pending ys left are)
+
+  given_first : given_fresh (ys ++ left) ≡ all_fresh ys ++ given_fresh left
+  given_first = given_all ys left (each_given s.flying ys (choice_done most_grouped s.pending)
+      (all_picked (IsPartGiven s.flying) s.pending ys left are (kept.up up).flights.waiting).0)
+
+  given_turned : IsPermutation (given_fresh (uncommitted s)) (all_fresh ys ++ given_fresh left)
+  given_turned = subst (λ (xs : List Context). IsPermutation (given_fresh xs) (all_fresh ys ++ given_fresh left)) (sym before)
+      (subst (IsPermutation (given_fresh s.pending)) (sym (given_both ys left) ∙ given_first)
+      (flat_picked (λ (x : Context). take x.given x.fresh) s.pending ys left are))
 
 open_footprint : (s : State) (d : Disk) (s' : State) (d' : Disk) → IsKept s d → is_ready step.Take d.depth s ≡ true → OpensBatch s d s' d'
     → Footprint s d s' d'
 open_footprint s d s' d' kept ready does =
-    let x : Context = does.context in
     let up : s.down ≡ None = ready_not_down s d.depth step.Take refl ready in
     let none : s.batch ≡ None = (take_none s d.depth (ready_by_table s d.depth step.Take up ready)).0 in
-    let at : IsFirst [] x s.pending = chosen_first [] s.pending x does.is_chosen in
-    let places : Ascends (map (λ (z : Context). z.place) s.pending) = (kept.up up).flights.places.ascend in
+    let ys : List Context = choice most_grouped s.pending in
+    let left : List Context = left_by most_grouped s.pending in
     subst (λ (t : State). Footprint s d t d') (sym does.after) (record {
       touch = nothing;
       device = rests d d' does.same;
       placed = tt;
       counted = omega arith;
-      rows = rows.reorders (intents (uncommitted (taken_up x s))) (order s x none at places) refl;
-      units = units.opens (given_fresh at.front) (take x.given x.fresh) (given_fresh at.back) (x.fresh ++ []) (given_before_it s x none at places)
-          (ap (λ (fs : List FreshUnit). record (data_part s) { given = fs; fresh = x.fresh ++ []; first = not_sent }) (given_behind_it s x none at places));
+      rows = rows.reorders (intents (ys ++ left)) (order s d kept up none) refl;
+      units = units.opens (all_fresh ys) (given_fresh left) (given_turned s d kept up none)
+          (ap (λ (fs : List FreshUnit). record (data_part s) { given = fs; fresh = all_fresh ys; first = not_sent }) (given_first s d kept up none));
       half = half.same tt (ap (λ f. record (half_part s) { second = f }) (ap second_flush (sym none)));
       other = other.same tt refl;
-      book = book.commits (intent_of x ∷ []) (ap (λ (o : Option Batch). intents (option_map_or (λ (b : Batch). b.contexts) o [])) none)
-          (ap (λ (n : ℕ). record (book_part s) {
-            book = record s.book { commits = s.book.commits ++ commit_of x ∷ [] };
-            applied = n;
-            batch = intent_of x ∷ [];
-          }) (applied_as_before s x none at places));
-      caused = record { ready = ready; does = inl (record { context = x; is_chosen = does.is_chosen; fits = does.fits; after = refl; same = does.same }) };
+      book = book.commits (intents ys) (ap (λ (o : Option Batch). intents (option_map_or (λ (b : Batch). b.contexts) o [])) none)
+          (part_taken s none ∙ ap (λ (cs : List Commit). record (book_part s) {
+            book = record s.book { commits = s.book.commits ++ cs };
+            batch = intents ys;
+          }) (commits_are ys));
+      caused = record { ready = ready; does = inl (record { some = does.some; fits = does.fits; after = refl; same = does.same }) };
     })
 
 pub take_footprint : (s : State) (d : Disk) (s' : State) (d' : Disk) → IsKept s d → is_ready step.Take d.depth s ≡ true → DoesTake s d s' d'

@@ -6,7 +6,7 @@ use Rattle.store_steps.specs.declared.flight.FlushState.TheVariants as flush
 use Rattle.store_steps.specs.declared.step.Step.TheVariants.{Take, Record, Commit, Finish}
 use Rattle.store_steps.specs.Prelude.{Batch, State, Unsent, unsent_units, run_bytes, next_unsent, batch_ops, sum_needs, applied_count, is_ready_up, uncommitted, intent_of, intents, needs_by, rows_part}
 use Rattle.flight_facts.specs.Prelude.{by_one, by_pieces, IsEnded, batch_pieces, batch_stages, IsBatchOpen, IsBatchFar, is_of_batch, flying_for, IsAllGiven, FitsRecord, check_most, entry_work, work_left}
-use Rattle.flight_facts.proofs.Prelude.{same_count, short_body, IsRunOf, row_bytes, run_whole, StandsIn, all_left, all_right, all_join, next_stands, test_of, some_is, all_at, open_far, begun_far, synced_far, ended_ahead, ended_flushed, some_pieces, take_tests, record_tests, pieces_left}
+use Rattle.flight_facts.proofs.Prelude.{same_count, short_body, IsRunOf, row_bytes, run_whole, StandsIn, all_left, all_right, all_join, next_stands, test_of, some_is, all_at, open_far, begun_far, synced_far, ended_ahead, ended_flushed, some_pieces, take_tests, record_tests, pieces_left, needs_both}
 use Rattle.meta_log.specs.Prelude.{next_super}
 use Rattle.store_steps.specs.declared.flight.Job.TheVariants as job
 use Rattle.run_facts.specs.Prelude.{HasRoom, IsAlwaysKept, IsKeptUp}
@@ -34,14 +34,10 @@ pub batch_fits : (s : State) (b : Batch) → HasRoom (rows_part s) → s.batch �
 batch_fits s b room is = all_left (λ x. FitsRecord (intent_of x)) b.contexts s.pending
     (subst (λ (o : Option Batch). AllByRecursion (λ x. FitsRecord (intent_of x)) (option_map_or (λ (c : Batch). c.contexts) o [] ++ s.pending)) is (all_fit s room))
 
--- the needs of contexts, one by one and together
+-- the needs of contexts
 pub needs_are : (xs : List Context) → needs_by (intents xs) ≡ sum_needs xs
 needs_are [] = refl
 needs_are (x ∷ xs) = ap (λ (n : ℕ). x.need + n) (needs_are xs)
-
-pub needs_both : (xs ys : List Context) → sum_needs (xs ++ ys) ≡ sum_needs xs + sum_needs ys
-needs_both [] ys = omega arith
-needs_both (x ∷ xs) ys = omega (arith, needs_both xs ys)
 
 -- ---- Data
 

@@ -1,13 +1,13 @@
 -- What the kernel keeps while it waits, and while it is down; and that a step lowers the measure.
-use Rattle.std.proofs.Common.{◌≡◌, inl, inr, ℕ, ◌+◌, ◌<◌, ◌≤◌, true, List, [], ◌∷◌, ◌++◌, map, Some, sym, ap, subst, ◌∙◌, arith}
-use Rattle.run_facts.proofs.Common.{AllByRecursion, option_map_or, Disk, Flight, IsSound, Waited, Ticket, Context, Step}
+use Rattle.std.proofs.Common.{◌≡◌, inl, inr, ℕ, ◌+◌, ◌<◌, ◌≤◌, true, List, [], ◌++◌, map, Some, sym, ap, subst, ◌∙◌, arith}
+use Rattle.run_facts.proofs.Common.{option_map_or, Disk, Flight, IsSound, Waited, Ticket, Context, Step}
 use Rattle.store_steps.specs.Prelude.{Batch, State, sum_needs, uncommitted, rows_units, rows_part, landed, is_ready, Call, submitting, reading, stepping, DoesOrFails, Submits, Reads, Calls}
 use Rattle.flight_facts.specs.Prelude.{work_left, measure, budget, AreFlightsKnown}
-use Rattle.flight_facts.proofs.Prelude.{Landed, landed_flight, Ends, IsStill, GoesDown, waited_history, not_both, GoneDown, StepOutcome, has_stepped, has_waited, has_gone_down, step_leaves, measure_falls}
+use Rattle.flight_facts.proofs.Prelude.{Landed, landed_flight, Ends, IsStill, GoesDown, waited_history, not_both, GoneDown, StepOutcome, has_stepped, has_waited, has_gone_down, step_leaves, measure_falls, needs_both}
 use Rattle.space_facts.proofs.Prelude.{check_units_are}
 use Rattle.meta_log.specs.Prelude.{check_units}
 use Rattle.run_facts.specs.Prelude.{HasRoom, IsAlwaysKept, IsKept}
-use Rattle.run_facts.proofs.Conditions.{pending_fits, needs_are, needs_both}
+use Rattle.run_facts.proofs.Conditions.{pending_fits, needs_are}
 
 -- ---- numbers and the work that is left stay within the budget
 
@@ -34,36 +34,17 @@ waited_keeps s d d' sound a (inr more) = record {
 
 -- ---- what is in flight is known
 
--- each that waits has room behind the rows
-each_has_room : (s : State) → HasRoom (rows_part s) → AllByRecursion (λ x. check_units s.log.number s.log.rows + x.need ≤ s.log.sup.half) s.pending
-each_has_room s room = of_each s.pending (behind (sum_needs front) (sum_needs s.pending) (sum_needs (front ++ s.pending)) (needs_both front s.pending))
+-- those that wait have room behind the rows
+all_have_room : (s : State) → HasRoom (rows_part s) → check_units s.log.number s.log.rows + sum_needs s.pending ≤ s.log.sup.half
+all_have_room s room =
+    all (check_units s.log.number s.log.rows) (rows_units s.log.rows) s.log.reserved (sum_needs front) (sum_needs s.pending) (sum_needs (front ++ s.pending))
+    s.log.sup.half (check_units_are s.log.number s.log.rows) (room.reserved ∙ needs_are (uncommitted s)) (needs_both front s.pending) room.room
   where
     front : List Context
     front = option_map_or (λ (b : Batch). b.contexts) s.batch []
 
-    fits : check_units s.log.number s.log.rows + sum_needs (front ++ s.pending) ≤ s.log.sup.half
-    fits = all (check_units s.log.number s.log.rows) (rows_units s.log.rows) s.log.reserved (sum_needs (front ++ s.pending)) s.log.sup.half
-        (check_units_are s.log.number s.log.rows) (room.reserved ∙ needs_are (uncommitted s)) room.room
-      where
-        all : (check units reserved needs half : ℕ) → check ≡ units → reserved ≡ needs → units + reserved ≤ half → check + needs ≤ half
-        all check units reserved needs half is same le = omega (arith, is, same, le)
-
-    behind : (one rest whole : ℕ) → whole ≡ one + rest → rest ≤ whole
-    behind one rest whole is = omega (arith, is)
-
-    of_each : (xs : List Context) → sum_needs xs ≤ sum_needs (front ++ s.pending)
-        → AllByRecursion (λ x. check_units s.log.number s.log.rows + x.need ≤ s.log.sup.half) xs
-    of_each [] most = tt
-    of_each (x ∷ xs) most = (
-      first (check_units s.log.number s.log.rows) x.need (sum_needs xs) (sum_needs (front ++ s.pending)) s.log.sup.half most fits,
-      of_each xs (others x.need (sum_needs xs) (sum_needs (front ++ s.pending)) most),
-    )
-      where
-        first : (check need rest whole half : ℕ) → need + rest ≤ whole → check + whole ≤ half → check + need ≤ half
-        first check need rest whole half le room = omega (arith, le, room)
-
-        others : (need rest whole : ℕ) → need + rest ≤ whole → rest ≤ whole
-        others need rest whole le = omega (arith, le)
+    all : (check units reserved one rest needs half : ℕ) → check ≡ units → reserved ≡ needs → needs ≡ one + rest → units + reserved ≤ half → check + rest ≤ half
+    all check units reserved one rest needs half is same both le = omega (arith, is, same, both, le)
 
 flights_known : (s : State) (d : Disk) → IsKept s d → AreFlightsKnown s d
 flights_known s d kept = record {
@@ -74,7 +55,7 @@ flights_known s d kept = record {
   checks = λ up. record {
     half = kept.always.limits.half_most;
     stale = (kept.up up).stale;
-    rows = each_has_room s (kept.up up).room;
+    rows = all_have_room s (kept.up up).room;
   };
 }
 

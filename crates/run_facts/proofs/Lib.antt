@@ -7,6 +7,7 @@ pub mod OtherHalf
 pub mod PartsKept
 pub mod RowsFacts
 pub mod Apart
+pub mod Choices
 pub mod Known
 pub mod DataFootprint
 pub mod ReapFootprint

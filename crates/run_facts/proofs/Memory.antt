@@ -1,6 +1,6 @@
 -- The bytes that reads find in memory: those of the units that transactions took which aren't committed. What each call makes of them, and that
 -- all other units of pages can be read.
-use Rattle.std.proofs.Common.{◌≡◌, ◌≢◌, ◌⊎◌, inl, inr, ℕ, Bool, true, false, cond, ◌==◌, List, [], ◌∷◌, ◌++◌, length, map, take, Contains, Option, Some, None, is_some, refl, sym, ap, subst, ◌∙◌}
+use Rattle.std.proofs.Common.{◌≡◌, ◌≢◌, ◌⊎◌, inl, inr, ℕ, Bool, true, false, cond, ◌==◌, ◌≤◌, List, [], ◌∷◌, ◌++◌, length, map, take, Contains, Option, Some, None, is_some, refl, sym, ap, subst, ◌∙◌, arith}
 use Rattle.run_facts.proofs.Common.{AllByRecursion, flat_map, option_map_or, option_or, eq-eqb, ne_eqb, same_Some, Ascends, Ticket, Disk, IsUntouched, Change, width_of, IsDataUnit, free_units, FreshUnit, Plan, PlansKeep, IsKnown, Context}
 use Rattle.std.proofs.lemmas.Bool.{cases_eq}
 use Rattle.std.proofs.lemmas.List.Concat.{flat_map-append}
@@ -10,16 +10,15 @@ use Rattle.store_image.specs.Prelude.{HasPage}
 use Rattle.store_image.proofs.Prelude.{page_owned}
 use Rattle.unit_allocator.proofs.FreeUnits.{listed_is_within}
 use Rattle.plan_rows.proofs.OnData.{owned_on_data}
-use Rattle.store_steps.specs.Prelude.{Batch, State, with_context, given_more, chosen, data_sent, reaped, taken_up, committed_batch, context_of, accepted_with, Accepts, Intent, intents, intent_of, uncommitted, all_fresh, bytes_in, memory_of}
-use Rattle.space_facts.proofs.Prelude.{in_or_not, listed_is_idle, taken_busy}
+use Rattle.store_steps.specs.Prelude.{Batch, State, with_context, given_more, choice, left_by, most_grouped, data_sent, reaped, taken_up, committed_batch, context_of, accepted_with, Accepts, Intent, intents, intent_of, uncommitted, all_fresh, bytes_in, memory_of}
+use Rattle.space_facts.proofs.Prelude.{in_or_not, times, listed_is_idle, taken_busy}
 use Rattle.flight_facts.specs.Prelude.{IsNone, FitsRecord}
-use Rattle.flight_facts.proofs.Prelude.{intents_kept, good_end, all_left, all_right, all_join, all_take, unflown, IsFirst, chosen_first}
+use Rattle.flight_facts.proofs.Prelude.{intents_kept, good_end, all_left, all_right, all_join, all_take, unflown, ArePicked, picked}
 use Rattle.run_facts.specs.Prelude.{IsKept}
 use Rattle.run_facts.proofs.SpaceUnits.{within_data}
 use Rattle.run_facts.proofs.PartsKept.{flat_intents}
 use Rattle.run_facts.proofs.RowsFacts.{units_of, taken_by}
-use Rattle.run_facts.proofs.Apart.{fresh_taken, taken_fresh, parts_apart, batch_apart, data_no_target}
-use Rattle.run_facts.proofs.BatchFootprints.{before_it, behind_it}
+use Rattle.run_facts.proofs.Apart.{fresh_taken, taken_fresh, times_both, lists_apart, taken_once, batch_apart, data_no_target}
 use Rattle.run_facts.proofs.RowsAccepted.{accepted_keeps, accepted_takes}
 use Rattle.run_facts.proofs.RowsNow.{kept_submitted}
 
@@ -189,42 +188,49 @@ memory_reaped ticket true s = memory_same s (reaped ticket true s) (good_end tic
 pub memory_batch : (s : State) (b : Batch) → s.batch ≡ Some b → memory_of s ≡ bytes_in (all_fresh (b.contexts ++ s.pending))
 memory_batch s b is = ap (λ (o : Option Batch). bytes_in (all_fresh (option_map_or (λ c. c.contexts) o [] ++ s.pending))) is
 
+-- where each unit was taken once, the order of those that took them is nothing to it
+bytes_turned : (xs ys left : List Context) → ArePicked xs ys left → ((u : ℕ) → times u (taken_by xs) ≤ 1) → (unit : ℕ)
+    → bytes_in (all_fresh (ys ++ left)) unit ≡ bytes_in (all_fresh xs) unit
+bytes_turned xs [] left are once unit = ap (λ (zs : List Context). bytes_in (all_fresh zs) unit) are
+bytes_turned xs (y ∷ ys) left (at, are) once unit =
+    bytes_both y.fresh (all_fresh (ys ++ left)) unit
+    ∙ ap (option_or (bytes_in y.fresh unit)) (bytes_turned (at.front ++ at.back) ys left are others unit ∙ contexts_both at.front at.back unit)
+    ∙ sym (turned (bytes_in (all_fresh at.front) unit) (bytes_in y.fresh unit) (bytes_in (all_fresh at.back) unit) either)
+    ∙ ap (option_or (bytes_in (all_fresh at.front) unit)) (sym (bytes_both y.fresh (all_fresh at.back) unit))
+    ∙ sym (contexts_both at.front (y ∷ at.back) unit)
+    ∙ ap (λ (zs : List Context). bytes_in (all_fresh zs) unit) (sym at.is)
+  where
+    here : (u : ℕ) → times u (taken_by (at.front ++ y ∷ at.back)) ≤ 1
+    here u = subst (λ (zs : List Context). times u (taken_by zs) ≤ 1) at.is (once u)
+
+    others : (u : ℕ) → times u (taken_by (at.front ++ at.back)) ≤ 1
+    others u = omega (arith, here u, times_both u at.front (y ∷ at.back), times_both u (y ∷ []) at.back, times_both u at.front at.back)
+
+    turned : (a b c : Option (List ℕ)) → (a ≡ None) ⊎ (b ≡ None) → option_or a (option_or b c) ≡ option_or b (option_or a c)
+    turned a b c (inl e) = ap (λ (o : Option (List ℕ)). option_or o (option_or b c)) e
+        ∙ sym (ap (λ (o : Option (List ℕ)). option_or b (option_or o c)) e)
+    turned a b c (inr e) = ap (λ (o : Option (List ℕ)). option_or a (option_or o c)) e
+        ∙ sym (ap (λ (o : Option (List ℕ)). option_or o (option_or a c)) e)
+
+    either : (bytes_in (all_fresh at.front) unit ≡ None) ⊎ (bytes_in y.fresh unit ≡ None)
+    either = elim (in_or_not (taken_by at.front) unit) [
+      | inl c ↦ inr (bytes_none y.fresh unit (fresh_taken (λ u. ¬ (u ≡ unit)) y.fresh (λ u mine same.
+          lists_apart at.front (y ∷ at.back) here unit c
+          (Contains-append_left (units_of y.fresh) (taken_by at.back) unit (subst (Contains (units_of y.fresh)) same mine)))))
+      | inr out ↦ inl (untaken_bytes at.front unit out)
+    ]
+
 module _ (s : State) (d : Disk) (kept : IsKept s d) (up : s.down ≡ None) where
-  -- a batch is opened of one of them: each unit is of one alone
-  pub memory_taken : (x : Context) → s.batch ≡ None → chosen s.pending ≡ Some x → memory_of (taken_up x s) ≡ memory_of s
-  memory_taken x none is = fun_ext (λ unit.
-      ap (λ (xs : List Context). bytes_in (all_fresh xs) unit) behind
-      ∙ bytes_both x.fresh (all_fresh (at.front ++ at.back)) unit
-      ∙ ap (option_or (bytes_in x.fresh unit)) (contexts_both at.front at.back unit)
-      ∙ sym (turned (bytes_in (all_fresh at.front) unit) (bytes_in x.fresh unit) (bytes_in (all_fresh at.back) unit) (either unit))
-      ∙ ap (option_or (bytes_in (all_fresh at.front) unit)) (sym (bytes_both x.fresh (all_fresh at.back) unit))
-      ∙ sym (contexts_both at.front (x ∷ at.back) unit)
-      ∙ ap (λ (xs : List Context). bytes_in (all_fresh xs) unit) (sym before))
+  -- a batch is opened
+  pub memory_taken : s.batch ≡ None → memory_of (taken_up s) ≡ memory_of s
+  memory_taken none = fun_ext (λ unit.
+      bytes_turned s.pending (choice most_grouped s.pending) (left_by most_grouped s.pending)
+      (picked most_grouped s.pending (kept.up up).flights.places.ascend) once unit
+      ∙ sym (ap (λ (o : Option Batch). bytes_in (all_fresh (option_map_or (λ (b : Batch). b.contexts) o [] ++ s.pending)) unit) none))
     where
-      at : IsFirst [] x s.pending
-      at = chosen_first [] s.pending x is
-
-      before : uncommitted s ≡ at.front ++ x ∷ at.back
-      before = before_it s x none at (kept.up up).flights.places.ascend
-
-      behind : uncommitted (taken_up x s) ≡ x ∷ (at.front ++ at.back)
-      behind = behind_it s x none at (kept.up up).flights.places.ascend
-
-      turned : (a b c : Option (List ℕ)) → (a ≡ None) ⊎ (b ≡ None) → option_or a (option_or b c) ≡ option_or b (option_or a c)
-      turned a b c (inl e) = ap (λ (o : Option (List ℕ)). option_or o (option_or b c)) e
-          ∙ sym (ap (λ (o : Option (List ℕ)). option_or b (option_or o c)) e)
-      turned a b c (inr e) = ap (λ (o : Option (List ℕ)). option_or a (option_or o c)) e
-          ∙ sym (ap (λ (o : Option (List ℕ)). option_or o (option_or a c)) e)
-
-      either : (unit : ℕ) → (bytes_in (all_fresh at.front) unit ≡ None) ⊎ (bytes_in x.fresh unit ≡ None)
-      either unit = elim (in_or_not (taken_by at.front) unit) [
-        | inl c ↦ inr (bytes_none x.fresh unit (fresh_taken (λ u. ¬ (u ≡ unit)) x.fresh (λ u mine same.
-            parts_apart s d kept up at.front (x ∷ at.back) before unit c (in_first (subst (Contains (units_of x.fresh)) same mine)))))
-        | inr out ↦ inl (untaken_bytes at.front unit out)
-      ]
-        where
-          in_first : Contains (units_of x.fresh) unit → Contains (taken_by (x ∷ at.back)) unit
-          in_first c = Contains-append_left (units_of x.fresh) (taken_by at.back) unit c
+      once : (u : ℕ) → times u (taken_by s.pending) ≤ 1
+      once u = subst (λ (o : Option Batch). times u (taken_by (option_map_or (λ (b : Batch). b.contexts) o [] ++ s.pending)) ≤ 1) none
+          (taken_once s d kept up u)
 
   -- it is committed: its units are in memory no more, and all others are as they were
   pub memory_committed : (b : Batch) → s.batch ≡ Some b → (unit : ℕ)

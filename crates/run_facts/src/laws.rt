@@ -1,7 +1,9 @@
 //! What the kernel keeps, and that its steps come to an end. Each function has laws for its contract and does nothing.
-ghost use Rattle.std.specs.Prelude.{◌≡◌, ℕ, ◌+◌, ◌*◌, ◌^◌, ◌<◌, ◌≤◌, Bool, true, List, [], length, slice_get, Contains, Option, Some, None, is_some, if◌then◌else◌};
+ghost use Rattle.std.specs.Prelude.{◌≡◌, ℕ, ◌+◌, ◌*◌, ◌^◌, ◌<◌, ◌≤◌, Bool, true, List, [], ◌++◌, length, map, slice_get, Contains, Option, Some, None, is_some, if◌then◌else◌};
 ghost use Rattle.std.specs.List.{AllByRecursion};
 ghost use Rattle.std.specs.Option.{option_or};
+ghost use Rattle.unit_fields.specs.Prelude.{Ascends};
+ghost use Rattle.selections.specs.Fair.{IsComplete};
 ghost use Rattle.block_device.specs.declared.device.Ticket.{Ticket};
 ghost use Rattle.block_device.specs.Prelude.{Disk, IsSound, IsNotInFlight, IsUntouched};
 ghost use Rattle.meta_rows.specs.Prelude.{ops_bytes, row_sets, rows_size, AllFit};
@@ -20,7 +22,7 @@ ghost use Rattle.store_steps.specs.declared.step.Step.{Step};
 ghost use Rattle.store_steps.specs.declared.step.Step.TheVariants.{Data, Flush, Seal, Record, Sync, CheckWrite, CheckFlush, SlotWrite, SlotFlush};
 ghost use Rattle.store_steps.specs.declared.context.Context.{Context};
 ghost use Rattle.meta_store.specs.Store.{Begun, Checking};
-ghost use Rattle.store_steps.specs.Prelude.{Batch, State, Unsent, unsent_units, run_bytes, next_unsent, batch_ops, check_pieces, piece_unit, piece_bytes, Found, opened, is_ready, is_ready_up, is_drained, DoesOrFails, Reads, Call, Calls, IsRun, Accepts, Refuses, chosen, accepted_with, data_sent, reaped, taken_up, committed_batch, uncommitted, all_fresh, bytes_in, memory_of, intents, SpaceIsCounted, HoldsAreCounted, Footprint};
+ghost use Rattle.store_steps.specs.Prelude.{Batch, State, Unsent, unsent_units, run_bytes, next_unsent, batch_ops, check_pieces, piece_unit, piece_bytes, Found, opened, is_ready, is_ready_up, is_drained, DoesOrFails, Reads, Call, Calls, IsRun, Accepts, Refuses, chosen, choice, left_by, accepted_with, data_sent, reaped, taken_up, committed_batch, uncommitted, all_fresh, bytes_in, memory_of, intents, is_in, SpaceIsCounted, HoldsAreCounted, Footprint};
 ghost use Rattle.flight_facts.specs.Prelude.{measure};
 ghost use Rattle.run_facts.specs.Prelude.{IsKept, IsOpenable};
 
@@ -82,11 +84,23 @@ pub fn bytes_are_in_memory_until_committed()
     ensures same { (s s' : State) → intents (uncommitted s') ≡ intents (uncommitted s) → memory_of s' ≡ memory_of s }
     ensures given { (place count : ℕ) (ticket : Ticket) (s : State) → memory_of (data_sent place count ticket s) ≡ memory_of s }
     ensures reaped { (ticket : Ticket) (good : Bool) (s : State) → memory_of (reaped ticket good s) ≡ memory_of s }
-    ensures opened { (s : State) (d : Disk) → IsKept s d → s.down ≡ None → (x : Context) → s.batch ≡ None → chosen s.pending ≡ Some x
-        → memory_of (taken_up x s) ≡ memory_of s }
+    ensures opened { (s : State) (d : Disk) → IsKept s d → s.down ≡ None → s.batch ≡ None → memory_of (taken_up s) ≡ memory_of s }
     ensures committed { (s : State) (d : Disk) → IsKept s d → s.down ≡ None → (b : Batch) → s.batch ≡ Some b → (unit : ℕ)
         → memory_of (committed_batch b s) unit
         ≡ (if is_some (bytes_in (all_fresh b.contexts) unit) then None else memory_of s unit) }
+{}
+
+/// A batch takes at most so many contexts, all of whose units have reached the device, and fewer only where none of those left comes next. Taken to
+/// the front they change places with those of other collections alone. Those left stay in order, and none is lost.
+pub fn a_choice()
+    ensures few { (most : ℕ) (xs : List Context) → length (choice most xs) ≤ most }
+    ensures done { (most : ℕ) (xs : List Context) → AllByRecursion (λ x. x.done ≡ length x.fresh) (choice most xs) }
+    ensures full { (most : ℕ) (xs : List Context) → length (choice most xs) < most → chosen (left_by most xs) ≡ None }
+    ensures order { (most : ℕ) (xs : List Context) → Ascends (map (λ x. x.place) xs)
+        → IsComplete is_in (intents xs) (intents (choice most xs ++ left_by most xs)) }
+    ensures left { (most : ℕ) (xs : List Context) → Ascends (map (λ x. x.place) xs) → Ascends (map (λ x. x.place) (left_by most xs)) }
+    ensures count { (most : ℕ) (xs : List Context) → Ascends (map (λ x. x.place) xs)
+        → length (choice most xs) + length (left_by most xs) ≡ length xs }
 {}
 
 /// A kernel that is opened on a store with good rows keeps it from the start.

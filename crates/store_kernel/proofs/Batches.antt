@@ -1,50 +1,56 @@
 -- What the steps that the device has no part in do to the state.
-use Rattle.std.proofs.Common.{◌≡◌, inl, inr, ℕ, zero, suc, ◌+◌, ◌-◌, ◌&&◌, ◌^◌, ◌<◌, ◌≤◌, nat_lt, Bool, true, false, cond, List, [], ◌∷◌, ◌++◌, length, Option, Some, None, is_some, is_none, slice_get, get_or, set, refl, sym, ap, subst, ◌∙◌, append-nil, arith}
-use Rattle.std.specs.Prelude.{Contains, IfSome}
+use Rattle.std.proofs.Common.{◌≡◌, ◌≢◌, inl, inr, ℕ, zero, suc, ◌+◌, ◌-◌, ◌&&◌, ◌^◌, ◌<◌, ◌≤◌, nat_lt, Bool, true, cond, List, [], ◌∷◌, ◌++◌, length, map, take, Option, Some, None, is_some, is_none, slice_get, get_or, set, refl, sym, ap, subst, ◌∙◌, append_assoc, arith}
+use Rattle.std.specs.Prelude.{Contains}
+use Rattle.std.specs.List.{flat_map}
+use Rattle.std.specs.Option.{option_map_or}
 use Rattle.unit_allocator.proofs.Lists.{Contains-head}
 use Rattle.std.proofs.lemmas.List.Elements.{Contains-append_right}
 use Rattle.std.proofs.lemmas.Bool.{lt-ltb, le-ltb, and_parts, cases_lt}
 use Rattle.std.proofs.lemmas.Option.{IfSome_then}
 use Rattle.block_device.specs.Prelude.{Disk}
 use Rattle.object_model.specs.declared.book.Commit.{Commit}
+use Rattle.byte_maps.specs.Units.{units_for}
 use Rattle.meta_rows.specs.declared.row_op.RowOp.{RowOp}
+use Rattle.meta_rows.specs.Prelude.{ops_bytes}
 use Rattle.meta_log.specs.Prelude.{unit_count, piece_count}
 use Rattle.meta_store.specs.Store as meta
 use Rattle.meta_store.specs.Checks.{with_check}
 use Rattle.unit_allocator.specs.Prelude.{given}
 use Rattle.store_steps.specs.declared.context.Context.{Context}
 use Rattle.store_steps.specs.declared.flight.FlushState.TheVariants as flush
-use Rattle.store_steps.specs.Prelude.{Batch, State, chosen, without_context, batch_released, log_after, acknowledged, is_ready, units_taken, OpensBatch, OpensCheck, DoesCommit, DoesFinish, intent_of}
+use Rattle.store_steps.specs.Prelude.{Batch, State, most_grouped, chosen, choice, left_by, without_context, batch_released, sum_needs, log_after, commit_of, acknowledged, is_ready, units_taken, uncommitted, rows_units, OpensBatch, OpensCheck, DoesCommit, DoesFinish, intent_of}
+use Rattle.waiting_contexts.specs.declared.choosing.Choice.{Choice}
+use Rattle.waiting_contexts.specs.Choices.{IsChoiceOf}
 use Rattle.flight_facts.specs.Prelude.{FlightsMatch, FitsRecord}
-use Rattle.flight_facts.proofs.Prelude.{IsFirst, chosen_first, all_at, rests_switch, rests_batch}
+use Rattle.flight_facts.proofs.Pieces.{length-record}
+use Rattle.flight_facts.proofs.Needs.{needs_most}
+use Rattle.flight_facts.proofs.Prelude.{ArePicked, picked, all_picked, sum_picked, needs_both, short_body, rests_switch, rests_batch}
 use Rattle.run_facts.specs.Prelude.{AcksAre, IsKept}
-use Rattle.run_facts.proofs.Conditions.{pending_fits}
+use Rattle.run_facts.proofs.Conditions.{pending_fits, needs_are}
 use Rattle.run_facts.proofs.Prelude.{ready_not_down, some_of, take_none, HasRecord, ReadyCommit, known_batch, known_commit, known_finish, data_within, space_given, back_data, back_in_turn}
-use Rattle.kv_worker.specs.Batches.{TakesOne, CanCommit, flushed_batch}
+use Rattle.kv_worker.specs.Batches.{Takes, CanCommit, flushed_batch}
 use Rattle.store_image.specs.Prelude.{IsDataUnit}
 use Rattle.store_kernel.specs.declared.batch.OpenBatch.{OpenBatch}
 use Rattle.store_kernel.specs.Seen.{contexts_of, batch_of, is_sealed, IsStageOf}
 use Rattle.store_kernel.proofs.Sending.{table_of}
+use Rattle.std.proofs.lemmas.List.{map-append, take_more}
 use Rattle.store_kernel.specs.Units.{CanBeGiven}
 use Rattle.store_kernel.specs.Steps.{NextFits, NextIsTooLong}
 use Rattle.store_steps.specs.declared.step.Step.TheVariants as step
 
--- ---- a batch of one
-
--- what comes back at its commit
-one_released : (b : OpenBatch) (x : Context) → contexts_of b.stage ≡ x ∷ [] → batch_released (batch_of b) ≡ x.released
-one_released b x one =
-    ap (λ (xs : List Context). batch_released (record { contexts = xs; first = b.first; second = b.second })) one ∙ append-nil x.released
-
 -- ---- Take
 
 -- where a batch is taken, one can be
-pub one_is_chosen : (s : State) (d : Disk) → is_ready step.Take d.depth s ≡ true → chosen s.pending ≡ None → ⊥
+pub one_is_chosen : (s : State) (d : Disk) → is_ready step.Take d.depth s ≡ true → choice most_grouped s.pending ≢ []
 one_is_chosen s d ready none =
     let table = table_of s d.depth step.Take refl ready in
     let found = some_of (chosen s.pending) (and_parts (is_none s.batch && is_none s.switching) (is_some (chosen s.pending)) table).1 in
-    let both : None ≡ Some found.0 = sym none ∙ found.1 in
+    let some : choice most_grouped s.pending ≡ found.0 ∷ choice 63 (without_context (found.0).place s.pending) = ap next found.1 in
+    let both : [] ≡ found.0 ∷ choice 63 (without_context (found.0).place s.pending) = sym none ∙ some in
     cc
+  where
+    next : Option Context → List Context
+    next o = option_map_or (λ (x : Context). x ∷ choice 63 (without_context x.place s.pending)) o []
 
 -- nothing is under way for the log there: neither a record nor a checkpoint is begun
 pub record RestsLog (s : State) : Type 0 where
@@ -58,61 +64,106 @@ none_begun s d kept ready =
     let flights : FlightsMatch s d.flights = (kept.up up).flights in
     record { begun = (rests_batch s d.flights flights idle.0).0; check = (rests_switch s d.flights flights idle.1).0 }
 
--- the context that comes next needs as many units as its record takes
-chosen_needs : (s : State) (d : Disk) → IsKept s d → is_ready step.Take d.depth s ≡ true → (x : Context) → chosen s.pending ≡ Some x
-    → units_taken s x ≡ x.need
-chosen_needs s d kept ready x is =
-    let up : s.down ≡ None = ready_not_down s d.depth step.Take refl ready in
-    let first : IsFirst [] x s.pending = chosen_first [] s.pending x is in
-    (all_at (λ y. FitsRecord (intent_of y)) first.front x first.back s.pending first.is (pending_fits s (kept.up up).room)).need s.log.number
+-- of contexts whose operations are spelled in so many bytes: these aren't too many, and tell what the record of those that come next takes
+pub record AreBytesOfNext (s : State) (bytes : ℕ) : Type 0 where
+  pub few : bytes < 2 ^ 43
+  pub units : units_taken s ≡ units_for (24 + bytes)
 
--- so they tell whether its record fits behind the tail
-pub need_fits : (s : State) (d : Disk) (x : Context) → IsKept s d → is_ready step.Take d.depth s ≡ true → chosen s.pending ≡ Some x
-    → x.need ≤ s.log.sup.half - s.log.tail → NextFits s
-need_fits s d x kept ready is le =
-    subst (λ (o : Option Context). IfSome o (λ y. s.log.tail + units_taken s y ≤ s.log.sup.half)) (sym is)
-    (fits s.log.tail (units_taken s x) x.need s.log.sup.half (chosen_needs s d kept ready x is) le
-    (kept.up (ready_not_down s d.depth step.Take refl ready)).room.tail)
+pub bytes_of_next : (s : State) (d : Disk) (c : Choice) → IsKept s d → is_ready step.Take d.depth s ≡ true → IsChoiceOf (choice most_grouped s.pending) c
+    → AreBytesOfNext s c.bytes
+bytes_of_next s d c kept ready next = record {
+  few = few c.bytes (length (ops_bytes ops)) same short;
+  units = ap units_for (length-record s.log.number ops ∙ ap (λ (n : ℕ). 24 + n) (sym same));
+}
   where
-    fits : (tail units need half : ℕ) → units ≡ need → need ≤ half - tail → tail ≤ half → tail + units ≤ half
-    fits tail units need half is le within = omega (arith, is, le, within)
+    up : s.down ≡ None
+    up = ready_not_down s d.depth step.Take refl ready
 
-pub need_too_long : (s : State) (d : Disk) (x : Context) → IsKept s d → is_ready step.Take d.depth s ≡ true → chosen s.pending ≡ Some x
-    → s.log.sup.half - s.log.tail < x.need → NextIsTooLong s
-need_too_long s d x kept ready is lt =
-    subst (λ (o : Option Context). IfSome o (λ y. s.log.sup.half < s.log.tail + units_taken s y)) (sym is)
-    (long s.log.tail (units_taken s x) x.need s.log.sup.half (chosen_needs s d kept ready x is) lt)
+    xs : List Context
+    xs = choice most_grouped s.pending
+
+    left : List Context
+    left = left_by most_grouped s.pending
+
+    ops : List RowOp
+    ops = flat_map (λ x. x.ops) xs
+
+    are : ArePicked s.pending xs left
+    are = picked most_grouped s.pending (kept.up up).flights.places.ascend
+
+    most : unit_count s.log.number ops ≤ sum_needs xs
+    most = needs_most s.log.number xs (one_is_chosen s d ready)
+        (all_picked (λ z. FitsRecord (intent_of z)) s.pending xs left are (pending_fits s (kept.up up).room)).0
+
+    within : (units needs others wait front all reserved rows half : ℕ) → units ≤ needs → wait ≡ needs + others → all ≡ front + wait → reserved ≡ all
+        → rows + reserved ≤ half → half ≤ 65536 → units ≤ 65536
+    within units needs others wait front all reserved rows half le picked both is room few = omega (arith, le, picked, both, is, room, few)
+
+    batched : List Context
+    batched = option_map_or (λ (b : Batch). b.contexts) s.batch []
+
+    short : length (ops_bytes ops) < 2 ^ 32
+    short = short_body s.log.number ops
+        (within (unit_count s.log.number ops) (sum_needs xs) (sum_needs left) (sum_needs s.pending) (sum_needs batched) (sum_needs (uncommitted s)) s.log.reserved
+        (rows_units s.log.rows) s.log.sup.half most (sum_picked sum_needs needs_both s.pending xs left are) (needs_both batched s.pending)
+        ((kept.up up).room.reserved ∙ needs_are (uncommitted s)) (kept.up up).room.room kept.always.limits.half_most)
+
+    far : (n : ℕ) → n < 2 ^ 32 → n < 2 ^ 64
+    far n lt = omega (arith, lt)
+
+    same : c.bytes ≡ length (ops_bytes ops)
+    same = next.bytes (far (length (ops_bytes ops)) short)
+
+    few : (bytes n : ℕ) → bytes ≡ n → n < 2 ^ 32 → bytes < 2 ^ 43
+    few bytes n is lt = omega (arith, is, lt)
+
+-- so they tell whether it fits behind the tail
+pub next_fits : (s : State) (d : Disk) (bytes units : ℕ) → IsKept s d → is_ready step.Take d.depth s ≡ true → AreBytesOfNext s bytes
+    → units ≡ units_for (24 + bytes) → units ≤ s.log.sup.half - s.log.tail → NextFits s
+next_fits s d bytes units kept ready next is le = record {
+  fits = fits s.log.tail (units_taken s) units s.log.sup.half (next.units ∙ sym is) le
+      (kept.up (ready_not_down s d.depth step.Take refl ready)).room.tail;
+}
   where
-    long : (tail units need half : ℕ) → units ≡ need → half - tail < need → half < tail + units
-    long tail units need half is lt = omega (arith, is, lt)
+    fits : (tail taken units half : ℕ) → taken ≡ units → units ≤ half - tail → tail ≤ half → tail + taken ≤ half
+    fits tail taken units half is le within = omega (arith, is, le, within)
 
-pub take_does : (s : State) (d : Disk) (xs batch : List Context) (x : Context) → NextFits s → TakesOne s.pending xs batch → batch ≡ x ∷ []
+pub next_too_long : (s : State) (bytes units : ℕ) → AreBytesOfNext s bytes → units ≡ units_for (24 + bytes) → s.log.sup.half - s.log.tail < units
+    → NextIsTooLong s
+next_too_long s bytes units next is lt =
+    record { too_long = long s.log.tail (units_taken s) units s.log.sup.half (next.units ∙ sym is) lt }
+  where
+    long : (tail taken units half : ℕ) → taken ≡ units → half - tail < units → half < tail + taken
+    long tail taken units half is lt = omega (arith, is, lt)
+
+-- each of these has its commit
+pub noted : (commits : List Commit) (xs : List Context) (i : ℕ) (x : Context) → i < length xs → x ≡ get_or xs i x
+    → (commits ++ map commit_of (take i xs)) ++ commit_of x ∷ [] ≡ commits ++ map commit_of (take (i + 1) xs)
+noted commits xs i x below is =
+    append_assoc commits (map commit_of (take i xs)) (commit_of x ∷ [])
+    ∙ ap (λ (cs : List Commit). commits ++ cs)
+    (sym (map-append commit_of (take i xs) (x ∷ []))
+    ∙ ap (map commit_of) (sym (take_more xs i x below ∙ ap (λ (y : Context). take i xs ++ y ∷ []) (sym is))))
+
+pub take_does : (s : State) (d : Disk) (xs batch : List Context) → is_ready step.Take d.depth s ≡ true → NextFits s → Takes s.pending xs batch
     → OpensBatch s d (record s {
       pending = xs;
       batch = Some (record { contexts = batch; first = flush.NotSent; second = flush.NotSent });
-      book = record s.book { commits = s.book.commits ++ record { place = x.place; acked_at = None } ∷ [] };
+      book = record s.book { commits = s.book.commits ++ map commit_of batch };
     }) d
-take_does s d xs batch x fits takes is = record {
-  context = takes.context;
-  is_chosen = takes.is_chosen;
-  fits = subst (λ (o : Option Context). IfSome o (λ y. s.log.tail + units_taken s y ≤ s.log.sup.half)) takes.is_chosen fits;
+take_does s d xs batch ready fits takes = record {
+  some = one_is_chosen s d ready;
+  fits = fits.fits;
   same = refl;
-  after =
-      ap (λ (l : List Context). after_with l batch x.place) takes.left
-      ∙ ap (λ (l : List Context). after_with (without_context takes.context.place s.pending) l x.place) takes.is
-      ∙ ap (λ (p : ℕ). after_with (without_context takes.context.place s.pending) (takes.context ∷ []) p) (ap first_place (sym is ∙ takes.is));
+  after = ap (λ (l : List Context). after_with l batch) takes.left ∙ ap (after_with (left_by most_grouped s.pending)) takes.is;
 }
   where
-    after_with : List Context → List Context → ℕ → State
-    after_with l b p = record s {
+    after_with : List Context → List Context → State
+    after_with l b = record s {
       pending = l;
       batch = Some (record { contexts = b; first = flush.NotSent; second = flush.NotSent });
-      book = record s.book { commits = s.book.commits ++ record { place = p; acked_at = None } ∷ [] };
+      book = record s.book { commits = s.book.commits ++ map commit_of b };
     }
-
-    first_place : List Context → ℕ
-    first_place [] = 0
-    first_place (y ∷ ys) = y.place
 
 -- or a checkpoint is opened
 pub open_does : (s : State) (d : Disk) (m : meta.Meta) → IsKept s d → is_ready step.Take d.depth s ≡ true → NextIsTooLong s → m ≡ with_check s.log
@@ -120,19 +171,15 @@ pub open_does : (s : State) (d : Disk) (m : meta.Meta) → IsKept s d → is_rea
       log = m;
       switching = Some (record { flush = flush.NotSent; slot = flush.NotSent; slot_flush = flush.NotSent });
     }) d
-open_does s d m kept ready long made =
-    let table = table_of s d.depth step.Take refl ready in
-    let found = some_of (chosen s.pending) (and_parts (is_none s.batch && is_none s.switching) (is_some (chosen s.pending)) table).1 in
-    record {
-      context = found.0;
-      is_chosen = found.1;
-      too_long = subst (λ (o : Option Context). IfSome o (λ y. s.log.sup.half < s.log.tail + units_taken s y)) found.1 long;
-      same = refl;
-      after = ap (λ (l : meta.Meta). let later : State = record s {
-        log = l;
-        switching = Some (record { flush = flush.NotSent; slot = flush.NotSent; slot_flush = flush.NotSent });
-      } in later) made;
-    }
+open_does s d m kept ready long made = record {
+  some = one_is_chosen s d ready;
+  too_long = long.too_long;
+  same = refl;
+  after = ap (λ (l : meta.Meta). let later : State = record s {
+    log = l;
+    switching = Some (record { flush = flush.NotSent; slot = flush.NotSent; slot_flush = flush.NotSent });
+  } in later) made;
+}
 
 -- ---- Commit
 
@@ -156,39 +203,34 @@ pub is_made : (s : State) (d : Disk) (b : OpenBatch) → IsKept s d → is_ready
 is_made s d b kept ready batch stage = stage ∙ ap is_some (known_commit s d (batch_of b) kept ready batch).begun
 
 -- the released units can come back
-pub come_back : (s : State) (d : Disk) (b : OpenBatch) (x : Context) → IsKept s d → is_ready step.Commit d.depth s ≡ true → s.batch ≡ Some (batch_of b)
-    → contexts_of b.stage ≡ x ∷ [] → CanBeGiven x.released s.space
-come_back s d b x kept ready batch one front rest u is = record {
+pub come_back : (s : State) (d : Disk) (b : OpenBatch) → IsKept s d → is_ready step.Commit d.depth s ≡ true → s.batch ≡ Some (batch_of b)
+    → CanBeGiven (batch_released (batch_of b)) s.space
+come_back s d b kept ready batch front rest u is = record {
   within = data_within s.log.sup (given s.space front) u (space_given s.log.sup s.space front kept.always.space) on;
-  taken = back_in_turn s d kept up (batch_of b) batch front rest u all;
+  taken = back_in_turn s d kept up (batch_of b) batch front rest u is;
   fits = below u s.log.sup.units on.1 kept.always.limits.units_most;
 }
   where
     up : s.down ≡ None
     up = ready_not_down s d.depth step.Commit refl ready
 
-    all : batch_released (batch_of b) ≡ front ++ (u ∷ rest)
-    all = one_released b x one ∙ is
-
     on : IsDataUnit s.log.sup u
     on = back_data s d kept up (batch_of b) batch u
-        (subst (λ (us : List ℕ). Contains us u) (sym all) (Contains-append_right front (u ∷ rest) u (Contains-head u rest)))
+        (subst (λ (us : List ℕ). Contains us u) (sym is) (Contains-append_right front (u ∷ rest) u (Contains-head u rest)))
 
     below : (u units : ℕ) → u < units → units ≤ 1048576 → u + 1 < 2 ^ 32
     below u units lt most = omega (arith, lt, most)
 
-pub commit_does : (s : State) (d : Disk) (m m' : meta.Meta) (b : OpenBatch) (x : Context) → s.batch ≡ Some (batch_of b) → s.log ≡ m
-    → contexts_of b.stage ≡ x ∷ [] → m' ≡ log_after (flushed_batch (contexts_of b.stage)) m
-    → DoesCommit s d (record s { log = m'; batch = None; space = given s.space x.released }) d
-commit_does s d m m' b x batch log one made = record {
+pub commit_does : (s : State) (d : Disk) (m m' : meta.Meta) (b : OpenBatch) → s.batch ≡ Some (batch_of b) → s.log ≡ m
+    → m' ≡ log_after (flushed_batch (contexts_of b.stage)) m
+    → DoesCommit s d (record s { log = m'; batch = None; space = given s.space (batch_released (batch_of b)) }) d
+commit_does s d m m' b batch log made = record {
   batch = batch_of b;
   begun = batch;
   same = refl;
   after =
-      ap (λ (l : meta.Meta). let later : State = record s { log = l; batch = None; space = given s.space x.released } in later)
-      (made ∙ ap (log_after (flushed_batch (contexts_of b.stage))) (sym log))
-      ∙ ap (λ (units : List ℕ). let later : State = record s { log = log_after (batch_of b) s.log; batch = None; space = given s.space units } in later)
-      (sym (one_released b x one));
+      ap (λ (l : meta.Meta). let later : State = record s { log = l; batch = None; space = given s.space (batch_released (batch_of b)) } in later)
+      (made ∙ ap (log_after (flushed_batch (contexts_of b.stage))) (sym log));
 }
 
 -- ---- Finish

@@ -6,7 +6,8 @@ use Rattle.std.proofs.lemmas.List.{take_more, drop_more, take-append-drop}
 use Rattle.std.proofs.lemmas.Bool.{eq-eqb, ne_eqb, eqb-true, cases_Bool}
 use Rattle.unit_fields.specs.Prelude.{Ascends}
 use Rattle.plan_rows.specs.declared.plan.FreshUnit.{FreshUnit}
-use Rattle.store_steps.specs.Prelude.{bytes_in}
+use Rattle.store_steps.specs.declared.context.Context.{Context}
+use Rattle.store_steps.specs.Prelude.{bytes_in, all_fresh}
 use Rattle.run_facts.proofs.Prelude.{bytes_both, all_take}
 
 abbrev Memory : Type 0
@@ -54,6 +55,27 @@ goes_on fresh start now after i f below is goes so_far u =
     gone_ahead now after f (drop (i + 1) fresh) goes u
     ∙ sym (ap (λ (fs : List FreshUnit). cond (is_some (bytes_in fs u)) None (now u)) (drop_more fresh i f below ∙ ap (λ (y : FreshUnit). y ∷ drop (i + 1) fresh) (sym is)))
     ∙ so_far u
+
+-- the loop that lets those of contexts go
+abbrev pub LetsGo : List Context → Memory → Memory → ℕ → Type 0
+LetsGo xs start now i = (u : ℕ) → cond (is_some (bytes_in (all_fresh (drop i xs)) u)) None (now u) ≡ cond (is_some (bytes_in (all_fresh xs) u)) None (start u)
+
+pub lets_go : (xs : List Context) (start now after : Memory) (i : ℕ) (x : Context) → i < length xs → x ≡ get_or xs i x
+    → ((u : ℕ) → after u ≡ cond (is_some (bytes_in x.fresh u)) None (now u)) → LetsGo xs start now i → LetsGo xs start after (i + 1)
+lets_go xs start now after i x below is goes so_far u =
+    ap (cond (is_some (bytes_in (all_fresh rest) u)) None) (goes u)
+    ∙ of_both (bytes_in x.fresh u) (bytes_in (all_fresh rest) u)
+    ∙ sym (ap (λ (o : Option (List ℕ)). cond (is_some o) None (now u)) (bytes_both x.fresh (all_fresh rest) u))
+    ∙ sym (ap (λ (ys : List Context). cond (is_some (bytes_in (all_fresh ys) u)) None (now u))
+    (drop_more xs i x below ∙ ap (λ (y : Context). y ∷ rest) (sym is)))
+    ∙ so_far u
+  where
+    rest : List Context
+    rest = drop (i + 1) xs
+
+    of_both : (o p : Option (List ℕ)) → cond (is_some p) None (cond (is_some o) None (now u)) ≡ cond (is_some (option_or o p)) None (now u)
+    of_both None p = refl
+    of_both (Some bytes) p = none_if (is_some p)
 
 -- ---- units that come
 

@@ -9,13 +9,11 @@ use Rattle.block_device.specs.declared.device.Ticket.{Ticket}
 use Rattle.block_device.specs.declared.event.Event.TheVariants as event
 use Rattle.meta_rows.specs.declared.row_op.RowOp.{RowOp}
 use Rattle.meta_rows.specs.Prelude.{row_sets}
-use Rattle.meta_log.specs.declared.slot.Super.{Super}
 use Rattle.meta_log.specs.Prelude.{record_units, units_of_records, one_record, check_units, other_unit, other_slot, next_super, super_bytes, IsSuper}
 use Rattle.meta_store.specs.Store as meta
 use Rattle.meta_store.specs.Checks.{IsCheckLeft, IsCheckWritten, IsNextCheck, LiesInOtherHalf, check_count, with_check_given, switched}
 use Rattle.log_facts.specs.Prelude.{target_unit}
 use Rattle.store_steps.specs.declared.flight.FlushState.TheVariants as flush
-use Rattle.store_steps.specs.declared.flight.Flying.{Flying}
 use Rattle.store_steps.specs.declared.flight.Job.{Job}
 use Rattle.store_steps.specs.declared.flight.Job.TheVariants as job
 use Rattle.store_steps.specs.declared.flight.Switching.{Switching}

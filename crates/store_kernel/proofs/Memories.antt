@@ -1,5 +1,5 @@
 -- What is in memory, step by step.
-use Rattle.std.proofs.Common.{◌≡◌, ℕ, true, Bool, cond, List, [], ◌∷◌, Option, Some, None, is_some, refl, sym, ap, ◌∙◌, append-nil}
+use Rattle.std.proofs.Common.{◌≡◌, ℕ, true, Bool, cond, List, Option, Some, None, is_some, refl, sym, ap, ◌∙◌}
 use Rattle.std.proofs.Math.Path.{fun_ext}
 use Rattle.std.specs.Option.{option_or}
 use Rattle.block_device.specs.Prelude.{Disk}
@@ -24,7 +24,7 @@ end_memory s s' d d' ok takes = ap memory_of takes.after ∙ memory_reaped takes
 pub take_memory : (s s' : State) (d d' : Disk) → IsKept s d → is_ready step.Take d.depth s ≡ true → OpensBatch s d s' d' → memory_of s' ≡ memory_of s
 take_memory s s' d d' kept ready does =
     let up : s.down ≡ None = ready_not_down s d.depth step.Take refl ready in
-    ap memory_of does.after ∙ memory_taken s d kept up does.context (take_none s d.depth (ready_by_table s d.depth step.Take up ready)).0 does.is_chosen
+    ap memory_of does.after ∙ memory_taken s d kept up (take_none s d.depth (ready_by_table s d.depth step.Take up ready)).0
 
 pub flush_memory : (s s' : State) (d d' : Disk) → DoesFlush s d s' d' → memory_of s' ≡ memory_of s
 flush_memory s s' d d' does = ap memory_of does.after ∙ sym (memory_batch s does.batch does.begun)
@@ -43,21 +43,17 @@ finish_memory s s' d d' does = ap memory_of does.after
 
 -- ---- a commit, with which the batch's units go
 
-pub commit_memory : (s s' : State) (d d' : Disk) (b : Batch) (x : Context) (before after : ℕ → Option (List ℕ)) → IsKept s d
-    → is_ready step.Commit d.depth s ≡ true → s.batch ≡ Some b → b.contexts ≡ x ∷ [] → DoesCommit s d s' d' → before ≡ memory_of s
-    → ((u : ℕ) → after u ≡ cond (is_some (bytes_in x.fresh u)) None (before u)) → after ≡ memory_of s'
-commit_memory s s' d d' b x before after kept ready batch one does held goes = fun_ext (λ u. at u) ∙ sym (ap memory_of does.after)
+pub commit_memory : (s s' : State) (d d' : Disk) (b : Batch) (before after : ℕ → Option (List ℕ)) → IsKept s d
+    → is_ready step.Commit d.depth s ≡ true → s.batch ≡ Some b → DoesCommit s d s' d' → before ≡ memory_of s
+    → ((u : ℕ) → after u ≡ cond (is_some (bytes_in (all_fresh b.contexts) u)) None (before u)) → after ≡ memory_of s'
+commit_memory s s' d d' b before after kept ready batch does held goes = fun_ext (λ u. at u) ∙ sym (ap memory_of does.after)
   where
-    its_units : all_fresh (does.batch).contexts ≡ x.fresh
-    its_units =
-        ap (λ (c : Batch). all_fresh c.contexts) (same_Some does.batch b (sym does.begun ∙ batch)) ∙ ap all_fresh one ∙ append-nil x.fresh
-
     at : (u : ℕ) → after u ≡ memory_of (committed_batch does.batch s) u
     at u =
         goes u
-        ∙ ap (λ (m : ℕ → Option (List ℕ)). cond (is_some (bytes_in x.fresh u)) None (m u)) held
-        ∙ sym (memory_committed s d kept (ready_not_down s d.depth step.Commit refl ready) does.batch does.begun u
-        ∙ ap (λ (fs : List FreshUnit). cond (is_some (bytes_in fs u)) None (memory_of s u)) its_units)
+        ∙ ap (λ (m : ℕ → Option (List ℕ)). cond (is_some (bytes_in (all_fresh b.contexts) u)) None (m u)) held
+        ∙ sym (memory_committed s d kept (ready_not_down s d.depth step.Commit refl ready) b batch u)
+        ∙ ap (λ (c : Batch). memory_of (committed_batch c s) u) (same_Some b does.batch (sym batch ∙ does.begun))
 
 -- ---- a transaction that is accepted, whose units come
 

@@ -1,11 +1,12 @@
 -- Units that are taken one after the other, and given back one after the other.
-use Rattle.std.proofs.Common.{◌≡◌, ℕ, ◌+◌, ◌^◌, ◌<◌, ◌≤◌, false, List, [], ◌∷◌, map, drop, length, get_or, refl, sym, ap, subst, ◌∙◌, arith}
-use Rattle.std.specs.List.{AllByRecursion}
+use Rattle.std.proofs.Common.{◌≡◌, ℕ, ◌+◌, ◌^◌, ◌<◌, ◌≤◌, false, List, [], ◌∷◌, ◌++◌, map, drop, length, get_or, refl, sym, ap, subst, ◌∙◌, append_assoc, arith}
+use Rattle.std.specs.List.{AllByRecursion, flat_map}
 use Rattle.std.proofs.lemmas.List.{drop_more}
 use Rattle.unit_fields.specs.Prelude.{Ascends}
 use Rattle.plan_rows.specs.declared.plan.FreshUnit.{FreshUnit}
 use Rattle.unit_allocator.specs.Prelude.{Space, IsWithin, is_free, taken_one, given_one, taken, given}
 use Rattle.unit_allocator.proofs.FreeUnits.{taken_is_not_free, range_stays}
+use Rattle.store_steps.specs.declared.context.Context.{Context}
 use Rattle.store_kernel.specs.Units.{IsFreeUnit, IsTakenUnit, CanBeTaken, CanBeGiven}
 
 -- what is left begins with the item of this turn
@@ -94,4 +95,45 @@ gives_on units start space after i u below is made ahead can =
     subst (λ (s : Space). GivesOn units start s (i + 1)) (sym made) (record {
       ahead = sym (ap (given space) left) ∙ ahead;
       can = can_give_more u rest space (subst (λ (us : List ℕ). CanBeGiven us space) left can);
+    })
+
+-- ---- giving back, list by list
+
+given_both : (us vs : List ℕ) (space : Space) → given space (us ++ vs) ≡ given (given space us) vs
+given_both [] vs space = refl
+given_both (u ∷ us) vs space = given_both us vs (given_one space u)
+
+-- of two lists the first can be given, and then the second
+pub can_give_front : (us vs : List ℕ) (space : Space) → CanBeGiven (us ++ vs) space → CanBeGiven us space
+can_give_front us vs space can front rest u is = can front (rest ++ vs) u (ap (λ (ws : List ℕ). ws ++ vs) is ∙ append_assoc front (u ∷ rest) vs)
+
+can_give_behind : (us vs : List ℕ) (space : Space) → CanBeGiven (us ++ vs) space → CanBeGiven vs (given space us)
+can_give_behind us vs space can front rest u is =
+    subst (λ (s : Space). IsTakenUnit s u) (given_both us front space)
+    (can (us ++ front) rest u (ap (λ (ws : List ℕ). us ++ ws) is ∙ sym (append_assoc us front (u ∷ rest))))
+
+abbrev pub released : List Context → List ℕ
+released xs = flat_map (λ x. x.released) xs
+
+-- what the context of this turn released can be given
+pub can_give_context : (xs : List Context) (space : Space) (i : ℕ) (x : Context) → i < length xs → x ≡ get_or xs i x
+    → CanBeGiven (released (drop i xs)) space → CanBeGiven x.released space
+can_give_context xs space i x below is can =
+    can_give_front x.released (released (drop (i + 1) xs)) space
+    (subst (λ (ys : List Context). CanBeGiven (released ys) space) (item_left xs i x below is) can)
+
+-- the loop that gives back what contexts released: what is left to give
+pub record FreesOn (xs : List Context) (start space : Space) (i : ℕ) : Type 0 where
+  pub ahead : given space (released (drop i xs)) ≡ given start (released xs)
+  pub can : CanBeGiven (released (drop i xs)) space
+
+pub frees_on : (xs : List Context) (start space after : Space) (i : ℕ) (x : Context) → i < length xs → x ≡ get_or xs i x
+    → after ≡ given space x.released → given space (released (drop i xs)) ≡ given start (released xs) → CanBeGiven (released (drop i xs)) space
+    → FreesOn xs start after (i + 1)
+frees_on xs start space after i x below is made ahead can =
+    let rest : List Context = drop (i + 1) xs in
+    let left : drop i xs ≡ x ∷ rest = item_left xs i x below is in
+    subst (λ (s : Space). FreesOn xs start s (i + 1)) (sym made) (record {
+      ahead = sym (given_both x.released (released rest) space) ∙ sym (ap (λ (ys : List Context). given space (released ys)) left) ∙ ahead;
+      can = can_give_behind x.released (released rest) space (subst (λ (ys : List Context). CanBeGiven (released ys) space) left can);
     })

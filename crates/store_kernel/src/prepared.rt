@@ -1,5 +1,6 @@
 //! A transaction with all that it takes to accept it.
-ghost use Rattle.std.specs.Prelude.{◌≡◌, ℕ, ◌<◌, ◌^◌, length};
+ghost use Rattle.std.specs.Prelude.{◌≡◌, ℕ, ◌+◌, ◌<◌, ◌^◌, length};
+ghost use Rattle.byte_maps.specs.Units.{units_for};
 ghost use Rattle.meta_rows.specs.Prelude.{ops_bytes};
 ghost use Rattle.meta_log.specs.Prelude.{unit_count};
 
@@ -50,5 +51,13 @@ pub fn units_needed(ops: &[RowOp]) -> u32
     requires { length (ops_bytes ops.now) < 2 ^ 43 }
     ensures { (number : ℕ) → result ≡ unit_count number ops.now }
 {
-    ((HEAD_BYTES + encoded_len(ops) + (UNIT_BYTES - 1)) / UNIT_BYTES) as u32
+    units_of_body(encoded_len(ops)) as u32
+}
+
+/// How many units a record takes whose operations are spelled in so many bytes.
+pub fn units_of_body(bytes: usize) -> usize
+    requires { bytes < 2 ^ 43 }
+    ensures { result ≡ units_for (24 + bytes) }
+{
+    (HEAD_BYTES + bytes + (UNIT_BYTES - 1)) / UNIT_BYTES
 }

@@ -1,5 +1,5 @@
 -- What each step makes of the state: one function for each. What it does at the device is said in Steps.
-use Rattle.std.specs.Prelude.{ℕ, ◌+◌, ◌-◌, ◌==◌, not, Bool, true, false, List, [], ◌∷◌, ◌++◌, length, filter, find, Option, Some, None, is_some, if◌then◌else◌}
+use Rattle.std.specs.Prelude.{ℕ, ◌+◌, ◌-◌, ◌==◌, not, Bool, true, false, List, [], ◌∷◌, ◌++◌, map, filter, find, Option, Some, None, is_some, if◌then◌else◌}
 use Rattle.std.specs.Option.{option_map}
 use Rattle.block_device.specs.declared.device.Ticket.{Ticket}
 use Rattle.object_model.specs.declared.book.Commit.{Commit}
@@ -15,7 +15,7 @@ use Rattle.meta_store.specs.Store.{Meta, Begun, Checking}
 use Rattle.meta_store.specs.Checks as checks
 use Rattle.store_steps.specs.declared.flight.Switching.{Switching}
 use Rattle.store_steps.specs.State.{Batch, State}
-use Rattle.store_steps.specs.Contexts.{with_context, without_context, given_more, done_more, batch_ops, batch_released, sum_needs}
+use Rattle.store_steps.specs.Contexts.{with_context, choice, left_by, most_grouped, given_more, done_more, batch_ops, batch_released, sum_needs}
 
 -- ---- submissions
 
@@ -122,12 +122,12 @@ reaped ticket false s = let after : State = landed ticket s in record after { do
 abbrev pub commit_of : Context → Commit
 commit_of x = record { place = x.place; acked_at = None }
 
--- a batch of this context is open
-abbrev pub taken_up : Context → State → State
-taken_up x s = record s {
-  pending = without_context x.place s.pending;
-  batch = Some (record { contexts = x ∷ []; first = flush.NotSent; second = flush.NotSent });
-  book = record s.book { commits = s.book.commits ++ commit_of x ∷ [] };
+-- a batch of the contexts that come next is open
+abbrev pub taken_up : State → State
+taken_up s = let xs : List Context = choice most_grouped s.pending in record s {
+  pending = left_by most_grouped s.pending;
+  batch = Some (record { contexts = xs; first = flush.NotSent; second = flush.NotSent });
+  book = record s.book { commits = s.book.commits ++ map commit_of xs };
 }
 
 -- a checkpoint of the committed rows is open

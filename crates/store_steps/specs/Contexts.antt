@@ -1,7 +1,7 @@
 -- Contexts one by one, and which of them comes next.
-use Rattle.std.specs.Prelude.{ℕ, ◌+◌, ◌==◌, ◌&&◌, not, Bool, List, [], ◌∷◌, ◌++◌, length, map, filter, drop, nat_lt, Option, Some, None, if◌then◌else◌}
+use Rattle.std.specs.Prelude.{ℕ, zero, suc, ◌+◌, ◌==◌, ◌&&◌, not, Bool, List, [], ◌∷◌, ◌++◌, length, map, filter, drop, nat_lt, Option, Some, None, if◌then◌else◌}
 use Rattle.std.specs.List.{flat_map}
-use Rattle.std.specs.Option.{option_or}
+use Rattle.std.specs.Option.{option_or, option_map_or}
 use Rattle.meta_rows.specs.declared.row_op.RowOp.{RowOp}
 use Rattle.object_model.specs.Prelude.{any_named}
 use Rattle.plan_rows.specs.declared.plan.FreshUnit.{FreshUnit}
@@ -48,7 +48,7 @@ is_done x = x.done == length x.fresh
 abbrev pub colls_of : Context → List (List ℕ)
 colls_of x = x.coll ∷ []
 
--- The context that the next batch takes: the one of least place that is done and stands first in each of its collections.
+-- The context that comes next: the one of least place that is done and stands first in each of its collections.
 -- The names are of the collections that earlier contexts have.
 abbrev pub chosen_behind : List (List ℕ) → List Context → Option Context
 chosen_behind names [] = None
@@ -57,13 +57,27 @@ chosen_behind names (x ∷ xs) = if is_done x && not (any_named (colls_of x) nam
 abbrev pub chosen : List Context → Option Context
 chosen xs = chosen_behind [] xs
 
--- the contexts with a change of the one at this place
-abbrev pub with_context : ℕ → (Context → Context) → List Context → List Context
-with_context place change xs = map (λ x. if x.place == place then change x else x) xs
-
 -- the contexts but for the one at this place
 abbrev pub without_context : ℕ → List Context → List Context
 without_context place xs = filter (λ x. not (x.place == place)) xs
+
+-- the most contexts of a batch
+abbrev pub most_grouped : ℕ
+most_grouped = 64
+
+-- The contexts that a batch takes, at most so many: the one that comes next, then the one that comes next among those left, and so on.
+abbrev pub choice : ℕ → List Context → List Context
+choice zero xs = []
+choice (suc most) xs = option_map_or (λ (x : Context). x ∷ choice most (without_context x.place xs)) (chosen xs) []
+
+-- those that it leaves
+abbrev pub left_by : ℕ → List Context → List Context
+left_by zero xs = xs
+left_by (suc most) xs = option_map_or (λ (x : Context). left_by most (without_context x.place xs)) (chosen xs) xs
+
+-- the contexts with a change of the one at this place
+abbrev pub with_context : ℕ → (Context → Context) → List Context → List Context
+with_context place change xs = map (λ x. if x.place == place then change x else x) xs
 
 -- so many more of its units were given to the device, or have reached it
 abbrev pub given_more : ℕ → Context → Context

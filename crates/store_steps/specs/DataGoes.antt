@@ -1,6 +1,7 @@
 -- What a call makes of the data units that contexts took.
 use Rattle.std.specs.Prelude.{◌≡◌, ℕ, ◌+◌, List, [], ◌∷◌, ◌++◌, length}
 use Rattle.std.specs.List.{AllByRecursion}
+use Rattle.std.specs.List.Sorted.{IsPermutation}
 use Rattle.block_device.specs.Prelude.{WritesUnit, Flight, IsUntouched}
 use Rattle.block_device.specs.declared.event.Event.{Event}
 use Rattle.meta_log.specs.Prelude.{next_super}
@@ -30,13 +31,14 @@ pub record Gives (run : Unsent) (p q : DataPart) : Type 0 where
   pub others : Spares (run_write run) (front ++ back)
   pub batch : Spares (run_write run) p.fresh
 
--- They stay, with no data write; a run is submitted; a batch is opened, whose units come first; its flush is submitted, while none of them is
--- in flight, and ends; it is committed, and its units are no longer among them; or the halves change places, where the next record's number is this.
+-- They stay, with no data write; a run is submitted; a batch is opened, whose units were all given and come first; its flush is submitted, while none
+-- of them is in flight, and ends; it is committed, and its units are no longer among them; or the halves change places, where the next record's
+-- number is this.
 pub data DataGoes (flights : List Flight) : Touch → DataPart → DataPart → Type 0 where
   same : {t : Touch} {p q : DataPart} → IsNoData t → q ≡ p → DataGoes flights t p q
   gives : {p q : DataPart} (ticket : ℕ) (run : Unsent) → Gives run p q → DataGoes flights (on_data ticket run) p q
-  opens : {p q : DataPart} (front mine back fresh : List FreshUnit) → p.given ≡ front ++ (mine ++ back)
-      → q ≡ record p { given = mine ++ (front ++ back); fresh = fresh; first = not_sent } → DataGoes flights nothing p q
+  opens : {p q : DataPart} (fresh rest : List FreshUnit) → IsPermutation p.given (fresh ++ rest)
+      → q ≡ record p { given = fresh ++ rest; fresh = fresh; first = not_sent } → DataGoes flights nothing p q
   flushes_batch : {p q : DataPart} (ticket : ℕ) → AllByRecursion (λ f. IsUntouched flights f.unit) p.fresh → q ≡ record p { first = sent ticket }
       → DataGoes flights (flushes ticket) p q
   is_flushed : {p q : DataPart} (ticket : ℕ) → p.first ≡ sent ticket → q ≡ record p { first = flushed } → DataGoes flights (ends ticket) p q

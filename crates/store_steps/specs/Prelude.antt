@@ -1,6 +1,6 @@
 -- What other crates and the proofs cite, passed on from one place.
 pub use Rattle.store_steps.specs.State.{Batch, State, Machine}
-pub use Rattle.store_steps.specs.Contexts.{run_from, run_bytes, Unsent, unsent_units, run_of, unsent, next_unsent, is_done, colls_of, chosen_behind, chosen, with_context, without_context, given_more, done_more, batch_ops, batch_released, sum_needs}
+pub use Rattle.store_steps.specs.Contexts.{run_from, run_bytes, Unsent, unsent_units, run_of, unsent, next_unsent, is_done, colls_of, chosen_behind, chosen, with_context, without_context, most_grouped, choice, left_by, given_more, done_more, batch_ops, batch_released, sum_needs}
 pub use Rattle.store_steps.specs.Changes.{data_sent, flush_sent, record_sent, sync_sent, first_flushed, second_flushed, written_more, after_done, after_good, down_by, flying_of, landed, reaped, commit_of, taken_up, sealed, log_after, committed_batch, acknowledged, finished, check_sent, check_flush_sent, slot_sent, slot_flush_sent, checked_more, check_flushed, slot_written, slot_flushed, check_begun, switched}
 pub use Rattle.store_steps.specs.Ready.{is_empty, is_not_sent, pieces_of, check_pieces, batch_is, begun_is, check_is, switch_is, applied_count, is_ready_up, is_ready_down, is_ready, all_steps, ready_steps, is_drained}
 pub use Rattle.store_steps.specs.Steps.{piece_unit, piece_bytes, DoesData, Takes, DoesReap, units_taken, OpensBatch, OpensCheck, DoesTake, DoesFlush, DoesSeal, DoesRecord, DoesSync, DoesCommit, DoesFinish, IsTarget, DoesCheckWrite, DoesCheckFlush, DoesSlotWrite, DoesSlotFlush, DoesSwitch, Does}

@@ -1,5 +1,6 @@
 -- What each step does, at the device and to the state.
-use Rattle.std.specs.Prelude.{◌≡◌, ◌⊎◌, ℕ, ◌+◌, ◌*◌, ◌<◌, ◌≤◌, Bool, true, List, length, slice_get, Some}
+use Rattle.std.specs.Prelude.{◌≡◌, ◌≢◌, ◌⊎◌, ℕ, ◌+◌, ◌*◌, ◌<◌, ◌≤◌, Bool, true, List, [], length, slice_get, Some}
+use Rattle.std.specs.List.{flat_map}
 use Rattle.byte_maps.specs.Units.{units_from, unit_at}
 use Rattle.block_device.specs.Prelude.{Disk, Submitted, Reaped, Waited}
 use Rattle.block_device.specs.declared.device.Ticket.{Ticket}
@@ -7,14 +8,13 @@ use Rattle.block_device.specs.declared.event.Event.TheVariants as event
 use Rattle.meta_log.specs.declared.runs.UnitRun.{UnitRun}
 use Rattle.meta_log.specs.Prelude.{record_units, unit_count, piece_first, piece_units, active_unit, other_unit, other_slot, next_super, super_bytes, check_records, check_units}
 use Rattle.log_facts.specs.Prelude.{target_unit}
-use Rattle.store_steps.specs.declared.context.Context.{Context}
 use Rattle.store_steps.specs.declared.step.Step.{Step}
 use Rattle.store_steps.specs.declared.step.Step.TheVariants.{Data, Reap, Take, Flush, Seal, Record, Sync, Commit, Finish, CheckWrite, CheckFlush, SlotWrite, SlotFlush, Switch}
 use Rattle.meta_store.specs.Store.{Meta, Begun, Checking}
 use Rattle.store_steps.specs.declared.flight.Switching.{Switching}
 use Rattle.store_steps.specs.State.{Batch, State}
 use Rattle.store_steps.specs.Ready.{check_pieces}
-use Rattle.store_steps.specs.Contexts.{Unsent, unsent_units, run_bytes, next_unsent, chosen}
+use Rattle.store_steps.specs.Contexts.{Unsent, unsent_units, run_bytes, next_unsent, choice, most_grouped}
 use Rattle.store_steps.specs.Changes.{data_sent, flush_sent, record_sent, sync_sent, reaped, taken_up, sealed, committed_batch, finished, check_sent, check_flush_sent, slot_sent, slot_flush_sent, check_begun, switched}
 
 -- where the next piece of a record goes, and its bytes
@@ -43,23 +43,21 @@ pub record Takes (s : State) (d : Disk) (ok : Bool) (s' : State) (d' : Disk) : T
 abbrev pub DoesReap : State → Disk → State → Disk → Type 0
 DoesReap s d s' d' = Takes s d true s' d' ⊎ (Waited d d' × (s' ≡ s))
 
--- the units that the record of a context takes that a batch would take
-abbrev pub units_taken : State → Context → ℕ
-units_taken s x = unit_count s.log.number x.ops
+-- the units that the record of the batch takes that would be opened
+abbrev pub units_taken : State → ℕ
+units_taken s = unit_count s.log.number (flat_map (λ x. x.ops) (choice most_grouped s.pending))
 
 -- a batch is opened, whose record fits behind the tail
 pub record OpensBatch (s : State) (d : Disk) (s' : State) (d' : Disk) : Type 0 where
-  pub context : Context
-  pub is_chosen : chosen s.pending ≡ Some context
-  pub fits : s.log.tail + units_taken s context ≤ s.log.sup.half
-  pub after : s' ≡ taken_up context s
+  pub some : choice most_grouped s.pending ≢ []
+  pub fits : s.log.tail + units_taken s ≤ s.log.sup.half
+  pub after : s' ≡ taken_up s
   pub same : d' ≡ d
 
--- or a checkpoint, where it doesn't
+-- or a checkpoint, where it doesn't, and each context waits on
 pub record OpensCheck (s : State) (d : Disk) (s' : State) (d' : Disk) : Type 0 where
-  pub context : Context
-  pub is_chosen : chosen s.pending ≡ Some context
-  pub too_long : s.log.sup.half < s.log.tail + units_taken s context
+  pub some : choice most_grouped s.pending ≢ []
+  pub too_long : s.log.sup.half < s.log.tail + units_taken s
   pub after : s' ≡ check_begun s
   pub same : d' ≡ d
 

@@ -1,6 +1,6 @@
 //! What the kernel of the store is made of, and what each of its calls does, as plain data: contexts, the open batch, what
-//! is in flight; the table of steps; the answer to a transaction. The kernel's contracts and the facts that it keeps are said
-//! in these words.
+//! is in flight, a switch of the halves of the log among it; the table of steps; the answer to a transaction. The kernel's contracts
+//! and the facts that it keeps are said in these words.
 //!
 //! In Ceph's BlueStore a context is a `TransContext`, and the steps are the parts of its state machine.
 //!

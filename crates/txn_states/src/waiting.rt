@@ -6,6 +6,7 @@ ghost use Rattle.txn_states.specs.Writes.{IsWrite};
 
 use crate::next_write::{NextWrite, next_write};
 use crate::queued::Queued;
+use meta_rows::RowOp;
 use plan_rows::FreshUnit;
 use std::alloc::{AllocError, Global};
 use std::marker::Model;
@@ -57,6 +58,13 @@ impl Waiting {
         ensures { result.now ≡ self.now.coll }
     {
         self.context.coll.as_slice()
+    }
+
+    /// The row operations that its commit applies.
+    pub fn ops(&self) -> &[RowOp]
+        ensures { result.now ≡ self.now.ops }
+    {
+        self.context.ops.as_slice()
     }
 
     /// The units that it took, with their bytes.

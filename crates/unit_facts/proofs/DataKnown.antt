@@ -1,6 +1,9 @@
 -- What is known of the data units is kept, whatever a call makes of them.
 use Rattle.std.proofs.Common.{◌≡◌, ◌≢◌, inl, inr, ℕ, true, List, [], ◌∷◌, ◌++◌, ◌≤◌, length, sym, subst, arith}
 use Rattle.std.specs.List.{AllByRecursion}
+use Rattle.std.specs.List.Sorted.{IsPermutation}
+use Rattle.std.proofs.lemmas.List.Sorted.{IsPermutation-sym, All-permutation}
+use Rattle.std.proofs.lemmas.List.Elements.{All-from_recursion, recursion_from_All}
 use Rattle.block_device.specs.Prelude.{last, WritesUnit, WritesNothing, History, Flight, with_event, last_at, EventFits, IsUntouched, EachWriteIsAnswered, QuietAt}
 use Rattle.block_device.specs.declared.event.Event.{Event}
 use Rattle.block_device.specs.declared.event.Event.TheVariants.{Write, Flush, Done}
@@ -100,6 +103,10 @@ retired h s fresh rest are clean unit is others = elim (other_or_clean h fresh u
   | inr is_clean ↦ is_clean
 ]
 
+-- what holds of each holds of each in another order
+all_moved : {A : Type 0} (P : A → Type 0) (xs ys : List A) → IsPermutation xs ys → AllByRecursion P xs → AllByRecursion P ys
+all_moved P xs ys order all = recursion_from_All P ys (All-permutation P xs ys order (All-from_recursion P xs all))
+
 -- ---- each footprint
 
 pub units_known : (base : ℕ) (flights : List Flight) (t : Touch) (p q : DataPart) (h : History) → DataGoes flights t p q → IsPlaced p.sup t
@@ -114,17 +121,11 @@ units_known base flights t p q h (gives ticket run g) placed size limits on quie
       held = given_held h run p q g fit known.held;
       flushed_units = flushed_on h (run_write run) p.first p.fresh g.batch known.flushed_units;
     })
-units_known base flights t p q h (opens front its back fresh before is) placed size limits on quiet_since each next known =
-    let P : FreshUnit → Type 0 = λ (f : FreshUnit). last_at h f.unit ≡ f.bytes in
-    let held : AllByRecursion P (front ++ (its ++ back)) = subst (HeldBytesAreLast h) before known.held in
-    let behind : AllByRecursion P (its ++ back) = all_right P front (its ++ back) held in
+units_known base flights t p q h (opens fresh rest order is) placed size limits on quiet_since each next known =
     subst (AreKnown h) (sym is) (record {
-      clean = λ unit out others. let Q : FreshUnit → Type 0 = λ (f : FreshUnit). f.unit ≢ unit in
-          let rest : AllByRecursion Q (front ++ back) = all_right Q its (front ++ back) others in
-          known.clean unit out (subst (AllByRecursion Q) (sym before) (all_join Q front (its ++ back) (all_left Q front back rest)
-          (all_join Q its back (all_left Q its (front ++ back) others) (all_right Q front back rest))));
-      held = all_join P its (front ++ back) (all_left P its back behind)
-          (all_join P front back (all_left P front (its ++ back) held) (all_right P its back behind));
+      clean = λ unit out others. known.clean unit out
+          (all_moved (λ (f : FreshUnit). f.unit ≢ unit) (fresh ++ rest) p.given (IsPermutation-sym p.given (fresh ++ rest) order) others);
+      held = all_moved (λ (f : FreshUnit). last_at h f.unit ≡ f.bytes) p.given (fresh ++ rest) order known.held;
       flushed_units = none_flushed h fresh;
     })
 units_known base flights t p q h (flushes_batch ticket untouched is) placed size limits on quiet_since each next known =

@@ -116,7 +116,7 @@ heads_leave_room p ps xs x are none at = omega (arith, no_more (p ∷ ps) (place
 
 -- ---- the least of the places is that of the context that is chosen
 
-is_counted : (p : ℕ) (ps : List ℕ) (least : ℕ) → AllByRecursion (λ q. least ≤ q) ps → 0 < count_of p ps → least ≤ p
+pub is_counted : (p : ℕ) (ps : List ℕ) (least : ℕ) → AllByRecursion (λ q. least ≤ q) ps → 0 < count_of p ps → least ≤ p
 is_counted p [] least all some = absurd (omega (arith, some))
 is_counted p (q ∷ qs) least all some = elim (cases_Bool (q == p)) [
   | inl here ↦ omega (arith, all.0, eqb-true q p here)

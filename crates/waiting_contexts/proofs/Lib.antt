@@ -10,3 +10,4 @@ pub mod HeadCounts
 pub mod StepLemmas
 pub mod TakeLemmas
 pub mod TiedLemmas
+pub mod ChoiceLemmas

@@ -3,3 +3,4 @@ pub mod Heads
 pub mod Queues
 pub mod Unsent
 pub mod Ties
+pub mod Choices

@@ -9,13 +9,16 @@
 //! the kernel's proof has their clauses and not their bodies.
 ghost use Rattle.std.specs.Prelude.{◌≡◌, ℕ, ◌+◌, ◌==◌, ◌<◌, ◌≤◌, ◌++◌, ◌∷◌, List, [], true, false, is_some, length, option_copied, Some, IfOk, IfErr, IfSome, OnOk, OnErr, if◌then◌else◌};
 ghost use Rattle.std.specs.Option.{option_map_or};
-ghost use Rattle.store_steps.specs.Prelude.{chosen, next_unsent, with_context, without_context, given_more, done_more};
+ghost use Rattle.std.specs.Vec.{vec_len, vec_capacity};
+ghost use Rattle.store_steps.specs.Prelude.{chosen, choice, left_by, next_unsent, with_context, without_context, given_more, done_more};
 ghost use Rattle.txn_states.specs.Writes.{IsWrite};
 ghost use Rattle.waiting_contexts.specs.Places.{IsAboveAll, context_at};
 ghost use Rattle.waiting_contexts.specs.Unsent.{IsOfNext};
+ghost use Rattle.waiting_contexts.specs.Choices.{IsChoiceOf};
 ghost use Rattle.waiting_contexts.specs.Heads.{count_of};
 ghost use Rattle.waiting_contexts.specs.Ties.{is_head, HaveTurnsOf};
 
+use crate::choosing::{Choice, choose};
 use crate::done_heads::DoneHeads;
 use crate::sequencers::Sequencers;
 use crate::submissions::Submissions;
@@ -188,15 +191,31 @@ impl Contexts {
         !self.heads.is_empty()
     }
 
-    /// The context that the next batch is of, lent: that which `take_chosen` takes.
-    pub fn next_chosen(&self) -> Option<&Waiting>
-        ensures { option_copied result ≡ chosen self.now }
+    /// What a batch of at most so many contexts would take. All stay.
+    pub fn choose(&mut self, alloc: Global, most: u32) -> Result<Choice, AllocError>
+        ensures same { self.new ≡ self.old }
+        ensures chosen { IfOk result (IsChoiceOf (choice most self.old)) }
     {
-        self.submissions.facts();
-        let Some(place) = self.heads.first() else {
-            return None;
-        };
-        self.submissions.get(place)
+        choose(
+            alloc,
+            &self.submissions,
+            &self.sequencers,
+            &mut self.heads,
+            most,
+        )
+    }
+
+    /// Takes so many contexts, each of which comes next among those left, into a list that has the room.
+    pub fn take(&mut self, count: u32, list: &mut Vec<Queued>)
+        requires there { length (choice count self.old) ≡ count }
+        requires room { vec_len list.old + count ≤ vec_capacity list.old }
+        ensures taken { list.new.items ≡ list.old.items ++ choice count self.old }
+        ensures left { self.new ≡ left_by count self.old }
+    {
+        for _ in 0..count {
+            let queued = self.take_chosen();
+            list.push_reserved(queued);
+        }
     }
 
     /// Takes the context that the next batch is of. (Ceph's `_txc_finish_io` queues it.)

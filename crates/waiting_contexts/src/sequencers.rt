@@ -1,6 +1,6 @@
 //! The sequencers of collections.
 ghost use Rattle.std.specs.Prelude.{◌≡◌, ℕ, ◌++◌, List, ◌∷◌, [], true, IfOk, OnOk, OnErr};
-ghost use Rattle.op_sequencer.specs.Turns.{IsAboveAll, has_turn, done_at, ready, without_ready};
+ghost use Rattle.op_sequencer.specs.Turns.{IsAboveAll, has_turn, done_at, ready, behind, without_ready};
 ghost use Rattle.waiting_contexts.specs.Queues.{turns_in, ChangesAt, SameTurns};
 ghost use Rattle.waiting_contexts.specs.Ties.{is_ready_at};
 
@@ -81,6 +81,15 @@ impl Sequencers {
         };
         sequencer.io_done(place);
         sequencer.head_ready() == Some(place)
+    }
+
+    /// The place of the context that comes behind the one at this place in its collection, if it is done.
+    pub fn ready_behind(&self, coll: &[u8], place: u32) -> Option<u32>
+        requires { has_turn place (turns_in self.now coll.now) ≡ true }
+        ensures { result ≡ ready (behind place (turns_in self.now coll.now)) }
+    {
+        let sequencer = self.by_coll.get(coll)?;
+        sequencer.ready_behind(place)
     }
 
     /// Takes the first context of a collection out, if it is done, and gives the place of the next one, if that is done too.

@@ -1,23 +1,59 @@
 //! The steps, one by one. Each has at most one event of the device.
-ghost use Rattle.std.specs.Prelude.{◌≡◌, ◌≤◌, true, false, IsTrue, OnOk, IfErr};
+ghost use Rattle.std.specs.Prelude.{◌≡◌, ℕ, ◌+◌, ◌≤◌, ◌++◌, true, false, length, map, None, is_some, IsTrue, OnOk, IfErr, if◌then◌else◌};
+ghost use Rattle.std.specs.List.{flat_map};
+ghost use Rattle.std.specs.Vec.{vec_len, vec_capacity};
+ghost use Rattle.unit_allocator.specs.Prelude.{given};
+ghost use Rattle.write_buffers.specs.Prelude.{memory_in};
 ghost use Rattle.block_device.specs.Prelude.{Rose};
-ghost use Rattle.store_steps.specs.Prelude.{is_ready, Takes, DoesData, DoesReap, OpensBatch, DoesTake, DoesFlush, DoesSeal, DoesRecord, DoesSync, DoesCommit, DoesFinish};
+ghost use Rattle.store_steps.specs.Prelude.{most_grouped, choice, commit_of, all_fresh, bytes_in, is_ready, Takes, DoesData, DoesReap, OpensBatch, DoesTake, DoesFlush, DoesSeal, DoesRecord, DoesSync, DoesCommit, DoesFinish};
 ghost use Rattle.store_steps.specs.declared.step.Step.TheVariants as step;
+ghost use Rattle.waiting_contexts.specs.Choices.{IsChoiceOf};
 ghost use Rattle.store_kernel.specs.Steps.{NextFits, NextIsTooLong};
+ghost use Rattle.store_kernel.specs.Units.{CanBeGiven};
 
 use super::Kernel;
 use crate::batch::{OpenBatch, Stage, set_first, set_second};
 use crate::buffers::let_go;
 use crate::ends::count_end;
 use crate::flights::{counting, land};
+use crate::prepared::units_of_body;
 use crate::space::give_back;
 use crate::step_fail::StepFail;
 use block_device::Device;
-use kv_worker::{commit, take_batch};
+use kv_worker::{choose_batch, commit, take_batch};
 use object_model::Commit;
 use std::alloc::Global;
 use store_steps::{FlushState, Flying, Job};
-use txn_states::NextWrite;
+use txn_states::{NextWrite, Queued};
+use unit_allocator::Allocator;
+use waiting_contexts::Choice;
+use write_buffers::WriteBuffers;
+
+// Each of these transactions has its commit, which isn't acknowledged, in a list that has the room.
+fn note_commits(commits: &mut Vec<Commit>, queued: &[Queued])
+    requires { vec_len commits.old + length queued.now ≤ vec_capacity commits.old }
+    ensures { commits.new.items ≡ commits.old.items ++ map commit_of queued.now }
+{
+    for one in queued {
+        commits.push_reserved(Commit {
+            place: one.place(),
+            acked_at: None,
+        });
+    }
+}
+
+// What these transactions released is free, and reads find none of their units in memory any more.
+fn free_units(space: &mut Allocator, buffers: &mut WriteBuffers, queued: &[Queued])
+    requires { CanBeGiven (flat_map (λ x. x.released) queued.now) space.old }
+    ensures space { space.new ≡ given space.old (flat_map (λ x. x.released) queued.now) }
+    ensures buffers { (unit : ℕ) → memory_in buffers.new unit
+        ≡ (if is_some (bytes_in (all_fresh queued.now) unit) then None else memory_in buffers.old unit) }
+{
+    for one in queued {
+        give_back(space, one.released());
+        let_go(buffers, one.fresh());
+    }
+}
 
 impl<D: Device> Kernel<D> {
     pub(super) fn send_data(&mut self, alloc: Global) -> Result<(), StepFail>
@@ -80,16 +116,15 @@ impl<D: Device> Kernel<D> {
         Ok(())
     }
 
-    // Whether the record of the transaction that comes next fits behind the tail.
-    fn next_fits(&self) -> bool
-        requires { is_ready step.Take (D.disk self.now.device).depth self.now.state ≡ true }
+    // Whether the record of the transactions that come next fits behind the tail, whose operations are spelled in so many bytes.
+    fn next_fits(&self, next: &Choice) -> bool
+        requires ready { is_ready step.Take (D.disk self.now.device).depth self.now.state ≡ true }
+        requires next { IsChoiceOf (choice most_grouped self.now.state.pending) next.now }
         ensures fits { IsTrue result → NextFits self.now.state }
         ensures too_long { result ≡ false → NextIsTooLong self.now.state }
     {
-        let Some(next) = self.contexts.next_chosen() else {
-            return false;
-        };
-        next.need() <= self.meta.sup().half - self.meta.tail()
+        let left = self.meta.sup().half - self.meta.tail();
+        units_of_body(next.bytes) <= left as usize
     }
 
     pub(super) fn take_next(&mut self, alloc: Global) -> Result<(), StepFail>
@@ -99,31 +134,32 @@ impl<D: Device> Kernel<D> {
             × (D.disk self.new.device ≡ D.disk self.old.device)) }
         ensures faults { D.faults self.new.device ≡ D.faults self.old.device }
     {
-        if self.next_fits() {
-            self.take_batch()
+        let Ok(next) = choose_batch(alloc, &mut self.contexts) else {
+            return Err(StepFail::Memory);
+        };
+        if self.next_fits(&next) {
+            self.take_batch(alloc, next.count)
         } else {
             self.open_check(alloc)
         }
     }
 
-    fn take_batch(&mut self) -> Result<(), StepFail>
+    fn take_batch(&mut self, alloc: Global, count: u32) -> Result<(), StepFail>
         requires ready { is_ready step.Take (D.disk self.old.device).depth self.old.state ≡ true }
+        requires count { count ≡ length (choice most_grouped self.old.state.pending) }
         requires fits { NextFits self.old.state }
         ensures ok { OnOk result (OpensBatch self.old.state (D.disk self.old.device) self.new.state (D.disk self.new.device)) }
         ensures err { IfErr result (λ fail. (fail ≡ StepFail.Memory) × (self.new.state ≡ self.old.state)
             × (D.disk self.new.device ≡ D.disk self.old.device)) }
         ensures faults { D.faults self.new.device ≡ D.faults self.old.device }
     {
-        if self.commits.reserve(1).is_err() {
+        if self.commits.reserve(count as usize).is_err() {
             return Err(StepFail::Memory);
         }
-        let Some(batch) = take_batch(&mut self.contexts) else {
-            unreachable!();
+        let Ok(batch) = take_batch(alloc, &mut self.contexts, count) else {
+            return Err(StepFail::Memory);
         };
-        self.commits.push_reserved(Commit {
-            place: batch.queued().place(),
-            acked_at: None,
-        });
+        note_commits(&mut self.commits, batch.queued());
         drop(
             self.batch.replace(OpenBatch {
                 stage: Stage::Taken(batch),
@@ -260,9 +296,7 @@ impl<D: Device> Kernel<D> {
         let Stage::Sealed(sealed) = open.stage else {
             unreachable!();
         };
-        let queued = sealed.queued();
-        give_back(&mut self.space, queued.released());
-        let_go(&mut self.buffers, queued.fresh());
+        free_units(&mut self.space, &mut self.buffers, sealed.queued());
         drop(commit(sealed, &mut self.meta));
     }
 

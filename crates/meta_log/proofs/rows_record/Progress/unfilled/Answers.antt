@@ -30,7 +30,7 @@ returns-then-first-eq0 c =
     let zero : body_before r.size 0 ≡ 0 = omega arith in
     let body : c.deref.result.now ≡ take size bytes = c.deref.ensures.value ∙ c.in_ok-body.ensures ∙ ap (λ n. take size (drop n bytes)) (place ∙ zero) in
     IfOk-weaker c.headed.result _ _ (λ made is.
-    is ∙ ap (λ (h : List ℕ). h ++ to_le_bytes w32 (bit_xor r.digest all_ones) ++ c.deref.result.now) head_is
+    is ∙ ap₂ (λ (h : List ℕ) s. h ++ to_le_bytes w32 s ++ c.deref.result.now) head_is c.finish.ensures
     ∙ first_part r.number ops count size (bit_xor r.digest all_ones) c.deref.result.now c.requires.some sum size_is body
     ∙ ap (λ k. take (4096 * count) (drop (4096 * k) (record_bytes r.number ops))) (sym none)) c.headed.ensures
 

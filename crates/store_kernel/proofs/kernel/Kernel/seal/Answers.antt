@@ -3,16 +3,24 @@ use Rattle.std.specs.Option.{option_map}
 use Rattle.meta_store.specs.Store.{Meta, with_begun}
 use Rattle.store_steps.specs.declared.context.Context.{Context}
 use Rattle.store_steps.specs.declared.step.Step.TheVariants.{Seal}
-use Rattle.kv_worker.specs.Batches.{ops_of}
+use Rattle.kv_worker.specs.Batches.{CanSeal, ops_of}
 use Rattle.store_kernel.specs.declared.batch.OpenBatch.{OpenBatch}
 use Rattle.store_kernel.specs.declared.batch.Stage.{Stage}
 use Rattle.store_kernel.specs.declared.batch.Stage.TheVariants.{Taken}
 use Rattle.store_kernel.specs.Known.{KnownOfKernel}
 use Rattle.store_kernel.specs.Seen.{contexts_of, batch_of, state_of}
 use Rattle.store_kernel.proofs.Keeping.{known_step}
-use Rattle.store_kernel.proofs.Sending.{seal_does}
+use Rattle.store_kernel.proofs.Sending.{can_seal, seal_does}
 use Rattle.store_kernel.proofs.Memories.{seal_memory}
 use Rattle.store_kernel.proofs.kernel.Kernel.seal.Goals as goal
+
+pub seal-requires : goal.seal-requires
+seal-requires g c =
+    let k = c.self.inside in
+    let ready = rw (← c.self.view_is) at c.requires in
+    let batch : k.batch ≡ Some c.in-Some.open = sym c.take.ensures.value ∙ c.in-Some.is in
+    subst (λ (xs : List Context). CanSeal xs k.meta) (ap contexts_of c.in-Taken.is)
+    (can_seal _ _ k.meta c.in-Some.open c.self.invariant.kept ready (ap (option_map batch_of) batch) refl)
 
 pub invariant_of-self : goal.invariant_of-self
 invariant_of-self g c =

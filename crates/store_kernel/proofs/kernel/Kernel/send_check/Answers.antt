@@ -4,7 +4,7 @@ use Rattle.block_device.specs.declared.event.Event.TheVariants.{Write}
 use Rattle.store_steps.specs.declared.step.Step.TheVariants.{CheckWrite}
 use Rattle.store_steps.specs.Prelude.{memory_of}
 use Rattle.store_kernel.proofs.Keeping.{known_step}
-use Rattle.store_kernel.proofs.HalfSteps.{check_left, can_write_check, check_does}
+use Rattle.store_kernel.proofs.HalfSteps.{can_write_check, check_does}
 use Rattle.store_kernel.proofs.kernel.Kernel.send_check.Goals as goal
 
 pub submit_write-requires-clause-room : goal.submit_write-requires-clause-room

@@ -20,13 +20,14 @@ loops=()
 # Prints the calls on a device in a trace as words, in order: 'lock', 'cut' (its length is set), 'flush', 'read', and 'slot',
 # 'log' or 'data' for a write, by its place in a store whose halves have eight units; 'folder' is a flush of anything else. One
 # that failed has 'bad-' in front. Neighbours of one kind are one word, but for flushes. 'early' stands where more replies said
-# ok than records were flushed before.
+# ok than records were flushed before; a third word says how many transactions a record may have, where it isn't one.
 cat >calls.py <<'END'
 import re
 import sys
 
 KINDS = {"flock": "lock", "ftruncate": "cut", "pread64": "read", "fsync": "flush", "fdatasync": "flush"}
 device, words, waiting, stable, told = sys.argv[1], [], [], 0, 0
+most = int(sys.argv[3]) if len(sys.argv) > 3 else 1
 for line in open(sys.argv[2]):
     call = re.match(r"(\w+)\((\d+)<([^>]*)>(.*)\) += (-?\d+)", line)
     if not call:
@@ -36,7 +37,7 @@ for line in open(sys.argv[2]):
     if name == "write":
         if number == "1":
             told += len(re.findall(r"0:\d+ ok\\n", given))
-            if told > stable:
+            if told > most * stable:
                 words.append("early")
         continue
     if name == "pwrite64":
@@ -95,8 +96,8 @@ says 'two transactions' ended 0 '0:1 ok' '0:3 ok' 'done accepted=2 refused=0 rea
     exit
 }
 
-# ---- the calls of good runs: one flush at the opening, before anything is read or written; then two for each transaction with
-# data, between data and record and behind the record, and one for each without
+# ---- the calls of good runs: one flush at the opening, before anything is read or written; then two for each batch with data,
+# between data and record and behind the record, and one for each without
 
 calls_of_good_runs() {
     local settled='lock flush' flushed='log flush' with_data='data flush log flush'
@@ -112,6 +113,10 @@ calls_of_good_runs() {
     printf 'touch 1.0_head c\nwait\nwrite 1.0_head a 5 hex:41\nwait\nzero 1.0_head a 0 4096\n' >calls
     trace step PART --seed 2 calls
     says 'calls: a page that is changed in part is read' made_calls PART $settled read $flushed read $with_data $flushed
+    cp NEW BATCH
+    printf 'mkcoll 1.0_head\nwrite 1.0_head a 0 fill:5a:4096\n' >calls
+    trace step BATCH --seed 2 calls
+    says 'calls: two transactions of one batch' test "$status:$(python3 calls.py BATCH trace 2)" = "0:$settled read $with_data"
     trace step CALLS --seed 3 empty
     says 'calls: a run without transactions' made_calls CALLS $settled read
     trace dump CALLS

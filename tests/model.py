@@ -1,5 +1,5 @@
 #!/usr/bin/env python3
-"""Runs random scripts of 1 to 8 clients by the built program on real files, and compares what it says and leaves with a second store
+"""Runs random scripts of 1 to 8 clients, at times of 64, by the built program on real files, and compares what it says and leaves with a second store
 that is written here from the documents and shares nothing with the crates: each reply, the last line, `dump`, and the device, read byte
 by byte. The model draws from the seed what comes next, as the program does, so it knows in which order clients and steps come. The
 device must have exactly the slots, records and objects of the model, in the other half no unit but the stale ones may differ from zeros,
@@ -39,6 +39,7 @@ ROW_UNITS = 128
 RUN_PAGES = 256
 WRITE_UNITS = 64
 DEPTH = 64
+MOST_GROUPED = 64
 
 # ---- the checksum
 
@@ -128,17 +129,17 @@ def escaped(name):
     return "".join(chr(byte) if byte in plain else f"%{byte:02X}" for byte in name)
 
 
-@dataclass
+@dataclass(eq=False)
 class Transaction:
-    """An accepted transaction: its collection and what that has after it, the units that it takes and releases, how many its record
-    has, by how many bytes it makes the rows of objects longer, whose it is, and the line of its reply. Of its data writes, so many are
-    submitted, and so many have ended."""
+    """An accepted transaction: its collection and what that has after it, the units that it takes and releases, how many bytes its row
+    operations have, by how many bytes it makes the rows of objects longer, whose it is, and the line of its reply. Of its data writes, so
+    many are submitted, and so many have ended."""
 
     coll: bytes
     objects: dict
     taken: list
     released: list
-    record: int
+    body: int
     longer: int
     client: object = None
     line: int = 0
@@ -147,6 +148,11 @@ class Transaction:
 
     def __post_init__(self):
         self.writes = len(runs_of(self.taken))
+
+    @property
+    def need(self):
+        """How many units its record would have alone."""
+        return units_in(24 + self.body)
 
 
 def runs_of(units):
@@ -186,13 +192,14 @@ class Store:
         body = self.row_bytes + bits(set(range(2 * self.half + 2, self.units)) - self.free)
         return units_in(24 + body) if body else 0
 
-    def with_commit(self, it):
-        """The store of a device with this transaction's record behind the others."""
+    def with_batch(self, transactions):
+        """The store of a device with the record of these transactions behind the others."""
         other = self.copy()
-        other.put(it.coll, it.objects)
-        other.free = self.free - set(it.taken) | set(it.released)
-        other.row_bytes += it.longer
-        other.tail, other.number, other.commits = self.tail + it.record, self.number + 1, self.commits + 1
+        for it in transactions:
+            other.put(it.coll, it.objects)
+            other.free = other.free - set(it.taken) | set(it.released)
+            other.row_bytes += it.longer
+        other.tail, other.number, other.commits = self.tail + record_of(transactions), self.number + 1, self.commits + len(transactions)
         return other
 
     def mounted(self, device):
@@ -243,13 +250,14 @@ class Store:
         old, new = Rows(), Rows()
         old.add_other(coll, before, after)
         new.add_other(coll, after, before)
-        need = units_in(24 + difference(old.rows, new.rows) + bits(old.units ^ new.units))
+        body = difference(old.rows, new.rows) + bits(old.units ^ new.units)
+        need = units_in(24 + body)
         if self.room < need:
             return f"E10 MetaFull need={need} room={self.room}"
         self.free -= new.units - old.units
         self.put(coll, objects)
         longer = set_bytes(new.rows) - set_bytes(old.rows)
-        self.accepted = Transaction(coll, objects, sorted(new.units - old.units), sorted(old.units - new.units), need, longer)
+        self.accepted = Transaction(coll, objects, sorted(new.units - old.units), sorted(old.units - new.units), body, longer)
         return "ok"
 
     def getattr(self, coll, name, attr):
@@ -488,10 +496,10 @@ def sum_of(it):
 
 @dataclass
 class Batch:
-    """The open batch: its transaction, whether its record is made, and of the pieces of that how many are given and written. Its flushes
+    """The open batch: its transactions, whether its record is made, and of the pieces of that how many are given and written. Its flushes
     aren't submitted (0), in flight (1) or have ended (2). With the second one the device has had so many calls."""
 
-    transaction: Transaction
+    transactions: list
     is_sealed: bool = False
     given: int = 0
     written: int = 0
@@ -501,7 +509,7 @@ class Batch:
 
     @property
     def pieces(self):
-        return pieces_of(self.transaction.record)
+        return pieces_of(record_of(self.transactions))
 
 
 @dataclass
@@ -517,6 +525,11 @@ class Checkpoint:
     slot_flush: int = 0
 
 
+def record_of(transactions):
+    """How many units the record has of all their operations, one behind the other."""
+    return units_in(24 + sum(it.body for it in transactions))
+
+
 def pieces_of(units):
     return (units + WRITE_UNITS - 1) // WRITE_UNITS
 
@@ -530,7 +543,7 @@ class Kernel:
         self.store, self.states, self.committed = store.copy(), [store.copy()], []
         self.states[0].commits = 0
         self.pending, self.flying, self.batch, self.checkpoint, self.applied = [], deque(), None, None, deque()
-        self.reserved, self.events, self.calls, self.is_dirty = 0, 0, [], False
+        self.reserved, self.events, self.flushes, self.calls, self.is_dirty = 0, 0, 0, [], False
 
     @property
     def last(self):
@@ -543,7 +556,7 @@ class Kernel:
         reply = getattr(self.store, command[0])(*command[1:])
         if self.store.accepted:
             self.store.accepted.client, self.store.accepted.line = client, line
-            self.reserved += self.store.accepted.record
+            self.reserved += self.store.accepted.need
             self.pending.append(self.store.accepted)
         return reply
 
@@ -562,18 +575,21 @@ class Kernel:
         setattr(job, counted, 1)
         self.flying.append((job, counted))
         self.events += 1
+        self.flushes += 1
 
     def next_unsent(self):
         return next((it for it in self.pending if it.sent < it.writes), None)
 
-    def chosen(self):
-        """The first whose data writes have all ended and before which none of its collection waits."""
-        earlier = set()
+    def choice(self):
+        """Those whose data writes have all ended and before which none of their collection waits that isn't among them, as many as a batch may
+        have."""
+        held_back, chosen = set(), []
         for it in self.pending:
-            if it.ended == it.writes and it.coll not in earlier:
-                return it
-            earlier.add(it.coll)
-        return None
+            if it.ended == it.writes and it.coll not in held_back:
+                chosen.append(it)
+            else:
+                held_back.add(it.coll)
+        return chosen[:MOST_GROUPED]
 
     def ready(self):
         """The steps that are ready, in the order of the table."""
@@ -581,7 +597,7 @@ class Kernel:
         table = [
             (self.data, self.next_unsent() and has_room),
             (self.reap, self.flying),
-            (self.take, not batch and not check and self.chosen()),
+            (self.take, not batch and not check and self.choice()),
             (self.flush, batch and batch.first == 0 and has_room),
             (self.seal, batch and not batch.is_sealed),
             (self.record, batch and batch.first == 2 and batch.is_sealed and batch.given < batch.pieces and has_room),
@@ -608,10 +624,11 @@ class Kernel:
 
     def take(self):
         """Opens a batch where its record fits behind the tail, else a checkpoint, which takes nobody."""
-        it, last = self.chosen(), self.last
-        if last.tail + it.record <= last.half:
-            self.batch = Batch(it)
-            self.pending.remove(it)
+        chosen, last = self.choice(), self.last
+        if last.tail + record_of(chosen) <= last.half:
+            self.batch = Batch(chosen)
+            for it in chosen:
+                self.pending.remove(it)
         else:
             units = last.rows_units()
             zeros = runs_of(sorted(unit for unit in last.stale if unit >= units))
@@ -633,12 +650,12 @@ class Kernel:
         self.batch.calls = len(self.calls)
 
     def commit(self):
-        it = self.batch.transaction
-        self.store.free |= set(it.released)
-        self.reserved -= it.record
-        self.states.append(self.last.with_commit(it))
-        self.committed.append((it, self.batch.calls))
-        self.applied.append(it)
+        for it in self.batch.transactions:
+            self.store.free |= set(it.released)
+            self.reserved -= it.need
+            self.committed.append((it, self.batch.calls))
+            self.applied.append(it)
+        self.states.append(self.last.with_batch(self.batch.transactions))
         self.batch = None
 
     def finish(self):
@@ -1090,7 +1107,7 @@ def play(program, may_trace, seed):
     printed(program, "mkfs", "device", "--half", str(half), "--units", str(store.units))
     store = store.mounted(Device("device"))
     for _ in range(dice.choice([1, 2, 3])):
-        scripts = [drawn_script(dice) for _ in range(dice.choice([1, 1, 2, 3, dice.randrange(4, 9)]))]
+        scripts = [drawn_script(dice) for _ in range(dice.choice([1, 1, 2, 3, dice.randrange(4, 9), 64 if dice.random() < 0.1 else 1]))]
         names = [f"script{number}" for number in range(len(scripts))]
         for name, (lines, _) in zip(names, scripts):
             with open(name, "w", encoding="ascii") as it:
@@ -1283,24 +1300,53 @@ def told_of(lines, refused, free):
     return ", ".join([*told, f"done accepted={accepted} refused={refused} reads=0 commits={accepted} free={free}"])
 
 
+def told_shortly(lines):
+    """Of what is printed of a run, the first command that was refused, and the last line."""
+    return [*[line for line in lines if " E" in line][:1], lines[-1]]
+
+
+# Transactions that share a record and its two flushes. Nobody waits, so how many there are of a batch is drawn.
+ROW_OF_PAGES = [[MKCOLL, *(f"write 1.0_head a 0 fill:{at:02x}:4096" for at in range(1, 41))]]
+# Each client has a collection, and waits for each page; a batch has several of theirs.
+CLIENTS = [
+    [it for line in [f"mkcoll {at}.0_head", *(f"write {at}.0_head a 0 fill:{page:02x}:4096" for page in range(1, 11))] for it in (line, "wait")]
+    for at in range(1, 65)
+]
+ALL_WELL = "done accepted=704 refused=0 reads=0 commits=704 free=446"
+# The units of a half and of the device, the scripts, the seed, what is told shortly, the events, and how many of these submit a flush, where
+# that was reckoned.
+GROUPED = [
+    *((8, 64, ROW_OF_PAGES, seed, "0:9 E10 MetaFull need=1 room=0, done accepted=15 refused=26 reads=0 commits=15 free=45", 58, None)
+      for seed in (1, 2)),
+    (8, 64, ROW_OF_PAGES, 3, "0:9 E10 MetaFull need=1 room=0, done accepted=16 refused=25 reads=0 commits=16 free=45", 60, None),
+    (9, 64, ROW_OF_PAGES, 1, "0:10 E10 MetaFull need=1 room=0, done accepted=13 refused=28 reads=0 commits=13 free=43", 48, None),
+    (256, 1024, CLIENTS, 1, ALL_WELL, 1514, 78),
+    (256, 1024, CLIENTS, 2, ALL_WELL, 1526, 82),
+]
+CHECKS += [
+    (units, scripts, seed, told, half, 0, events, None, told_shortly, flushes) for half, units, scripts, seed, told, events, flushes in GROUPED
+]
+# Where a half is too short for the rows of them all and for what waits.
+CHECKS += [(1024, CLIENTS, 1, "done accepted=687 refused=17 reads=0 commits=687 free=830", 64, 0, None, None, lambda lines: lines[-1:])]
 CHECKS += [
     (64, [[it for line in lines for it in (line, "wait")]], 1, told_of(len(lines), refused, free), half, held, events, slots)
     for half, held, lines, refused, free, events, slots in SWITCHES
 ]
 
 
-def check(units, scripts, seed, wanted, half=8, held=0, events=None, slots=None):
+def check(units, scripts, seed, wanted, half=8, held=0, events=None, slots=None, shown=list, flushes=None):
     store = Store(units, half)
     store.stale = set(range(half)) if held else set()
     found, kernel = run(store, [read_script(script) for script in scripts], seed)
-    expect_same(found, wanted.split(", "), f"seed {seed}")
+    expect_same(shown(found), wanted.split(", "), f"seed {seed}")
     last, after = kernel.last, kernel.store
     expect(last.colls == after.colls and last.free == after.free, f"seed {seed}: the last commit leaves another store")
     expect(events in (None, kernel.events), f"there are {kernel.events} events, not {events}")
+    expect(flushes in (None, kernel.flushes), f"there are {kernel.flushes} flushes, not {flushes}")
     expect(slots in (None, last.slots), f"the slots are {last.slots}, not {slots}")
 
 
-def check_program(program, units, scripts, seed, wanted, half=8, held=0, _events=None, slots=None):
+def check_program(program, units, scripts, seed, wanted, half=8, held=0, _events=None, slots=None, shown=list, _flushes=None):
     """The same of the program, on a new store. Of its events nothing is seen here."""
     names = [f"script{number}" for number in range(len(scripts))]
     for name, lines in zip(names, scripts):
@@ -1309,7 +1355,7 @@ def check_program(program, units, scripts, seed, wanted, half=8, held=0, _events
     with open("device", "wb") as it:
         it.write(bytes([held]) * UNIT * units)
     printed(program, "mkfs", "device", "--half", str(half), "--units", str(units))
-    expect_same(printed(program, "step", "device", "--seed", str(seed), *names), wanted.split(", "), f"seed {seed}")
+    expect_same(shown(printed(program, "step", "device", "--seed", str(seed), *names)), wanted.split(", "), f"seed {seed}")
     found = Device("device").slots
     expect(slots in (None, found), f"the slots are {found}, not {slots}")
 

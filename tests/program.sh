@@ -150,9 +150,9 @@ shard() {
 }
 
 run mkfs T "${small[@]}"
-printf 'mkcoll 1.0_head\nwrite 1.0_head a 0 fill:5a:4096\nwait\n' >script
+printf 'mkcoll 1.0_head\nwait\nwrite 1.0_head a 0 fill:5a:4096\nwait\n' >script
 run step T --seed 1 script
-says 'step: a collection and a page' ended 0 '0:1 ok' '0:2 ok' 'done accepted=2 refused=0 reads=0 commits=2 free=45'
+says 'step: a collection and a page' ended 0 '0:1 ok' '0:3 ok' 'done accepted=2 refused=0 reads=0 commits=2 free=45'
 head -c 4096 /dev/zero | tr '\0' '\132' >page
 unit 18 T >found
 says 'step: the page stands on unit 18' cmp -s found page
@@ -221,9 +221,9 @@ says 'bitmap: it is left as it was' cmp -s ONE ONE_BEFORE
 
 # The record of a first page, on unit 130: the object's onode and its shard are set, and bit 2 of row 1 is turned.
 run mkfs BITS --half 64 --units 256
-printf 'mkcoll 1.0_head\nwrite 1.0_head a 0 fill:5a:4096\n' >first
+printf 'mkcoll 1.0_head\nwait\nwrite 1.0_head a 0 fill:5a:4096\n' >first
 run step BITS --seed 1 first
-says 'bitmap: a page on unit 130' ended 0 '0:1 ok' '0:2 ok' 'done accepted=2 refused=0 reads=0 commits=2 free=125'
+says 'bitmap: a page on unit 130' ended 0 '0:1 ok' '0:3 ok' 'done accepted=2 refused=0 reads=0 commits=2 free=125'
 zeros15=$(printf '00%.0s' {1..15})
 says 'bitmap: its record' has_record BITS 1 "$(onode 61)" "$(shard 61 130)" "03050062000000011000000004$zeros15"
 
@@ -265,6 +265,17 @@ is_leaked() {
     ended 0 'coll 1.0_head' 'object a size 4096 crc 37f18c49' 'end' && cmp -s LEAKED LEAKED_BEFORE && [ "$same" = yes ]
 }
 
+# By this seed both transactions are ready when the batch is opened: its record has the operations of both.
+run mkfs TOGETHER "${small[@]}"
+printf 'mkcoll 1.0_head\nwrite 1.0_head a 0 fill:5a:4096\n' >together
+run step TOGETHER --seed 2 together
+says 'step: two transactions in one batch' ended 0 '0:1 ok' '0:2 ok' 'done accepted=2 refused=0 reads=0 commits=2 free=45'
+says 'step: two transactions in one batch: the record' has_record TOGETHER 0 01090043312e305f6865616400000000 "$(onode 61)" "$(shard 61 18)" "$(turn 18)"
+unit 3 TOGETHER >found
+says 'step: two transactions in one batch: nothing is behind it' cmp -s found <(head -c 4096 /dev/zero)
+run dump TOGETHER
+says 'step: two transactions in one batch: what is there' ended 0 'coll 1.0_head' 'object a size 4096 crc 37f18c49' 'end'
+
 # The object of T stands on unit 18.
 says 'bitmap: the second record of T' has_record T 1 "$(onode 61)" "$(shard 61 18)" "$(turn 18)"
 says 'bitmap: an object without its bit' is_refused_as 'mount NotExact unit=18' "$(turn 18)"
@@ -305,10 +316,15 @@ holds() {
     unit "$at" RANGES | cmp -s - <(pieces "$@")
 }
 
-# lines LINE ..: the script 'ranges' makes the collection and has these lines; the script 'waiting' has a wait behind each.
+# lines LINE ..: the script 'ranges' makes the collection and has these lines; the script 'waiting' has a wait behind each, and one behind a
+# block, so that each transaction has a record of its own.
 lines() {
     printf '%s\n' 'mkcoll 1.0_head' "$@" >ranges
-    sed 'a wait' ranges >waiting
+    with_waits
+}
+
+with_waits() {
+    awk '{ print } /^begin$/ { inside = 1 } /^end$/ { inside = 0 } !inside { print "wait" }' ranges >waiting
 }
 
 # on_new SCRIPT HALF UNITS: runs it on a new store, whose data units hold zeros.
@@ -333,14 +349,14 @@ on_new ranges 8 64
 says 'ranges: nine bytes' ended 0 '0:1 ok' '0:2 ok' '0:3 sum 9 e3069283' 'done accepted=2 refused=0 reads=1 commits=2 free=45'
 says 'ranges: nine bytes, and zeros behind them' holds 18 31:1 32:1 33:1 34:1 35:1 36:1 37:1 38:1 39:1 00:4087
 lines 'write 1.0_head a 10 hex:' 'stat 1.0_head a'
-on_new ranges 64 256
-says 'ranges: no bytes' ended 0 '0:1 ok' '0:2 ok' '0:3 size 0' 'done accepted=2 refused=0 reads=1 commits=2 free=126'
+on_new waiting 64 256
+says 'ranges: no bytes' ended 0 '0:1 ok' '0:3 ok' '0:5 size 0' 'done accepted=2 refused=0 reads=1 commits=2 free=126'
 says 'ranges: no bytes: its record' has_record RANGES 1 "$(onode 61 0)"
 
 # The page of the first byte is on unit 130. Two bytes over it and behind it take the two units behind that one.
 lines 'write 1.0_head a 4095 hex:41' 'write 1.0_head a 4095 hex:4243' 'read 1.0_head a 4094 4'
-on_new ranges 64 256
-says 'ranges: over two pages' ended 0 '0:1 ok' '0:2 ok' '0:3 ok' '0:4 data 004243' 'done accepted=3 refused=0 reads=1 commits=3 free=124'
+on_new waiting 64 256
+says 'ranges: over two pages' ended 0 '0:1 ok' '0:3 ok' '0:5 ok' '0:7 data 004243' 'done accepted=3 refused=0 reads=1 commits=3 free=124'
 says 'ranges: over two pages: the first' holds 131 00:4095 42:1
 says 'ranges: over two pages: the second' holds 132 43:1 00:4095
 says 'ranges: over two pages: the record' has_record RANGES 2 "$(onode 61 4097)" \
@@ -349,8 +365,8 @@ says 'ranges: over two pages: the object' has_object 4097 22d85206
 
 # The pages are on units 130 and 131. The first one's unit is 132 once it is cut.
 lines 'write 1.0_head a 0 fill:5a:5000' 'truncate 1.0_head a 100' 'truncate 1.0_head a 5000' 'read 1.0_head a 99 3' 'stat 1.0_head a'
-on_new ranges 64 256
-says 'ranges: cut and made longer' ended 0 '0:1 ok' '0:2 ok' '0:3 ok' '0:4 ok' '0:5 data 5a0000' '0:6 size 5000' \
+on_new waiting 64 256
+says 'ranges: cut and made longer' ended 0 '0:1 ok' '0:3 ok' '0:5 ok' '0:7 ok' '0:9 data 5a0000' '0:11 size 5000' \
     'done accepted=4 refused=0 reads=2 commits=4 free=125'
 says 'ranges: cut and made longer: its page' holds 132 5a:100 00:3996
 says 'ranges: cut and made longer: the record of the cut' has_record RANGES 2 "$(onode 61 100)" \
@@ -367,8 +383,6 @@ says 'ranges: zeros over three pages' ended 0 '0:1 ok' '0:2 ok' '0:3 ok' '0:4 da
     '0:8 sum 4096 2c7f47f5' '0:9 ok' 'done accepted=5 refused=0 reads=4 commits=5 free=125'
 says 'ranges: zeros over three pages: the first' holds 133 61:1000 00:3096
 says 'ranges: zeros over three pages: the last' holds 134 00:2808 61:1288
-says 'ranges: zeros over three pages: the record' has_record RANGES 2 \
-    "01${shard_key}1e0000000000000001000085000000f5477f2c0200000001000086000000de63465e" "0305006200000001100000007c$zeros15"
 says 'ranges: zeros over three pages: what is left' holds 135 61:1000 00:3096
 says 'ranges: zeros over three pages: the first unit is as it was' holds 130 61:4096
 says 'ranges: zeros over three pages: the object' has_object 4095 aca65e2f
@@ -379,6 +393,8 @@ says 'ranges: zeros, with waits: the first' holds 133 61:1000 00:3096
 says 'ranges: zeros, with waits: the last' holds 134 00:2808 61:1288
 says 'ranges: zeros, with waits: what is left' holds 130 61:1000 00:3096
 says 'ranges: zeros, with waits: no other unit was taken' holds 135 00:4096
+says 'ranges: zeros, with waits: the record of the zeros' has_record RANGES 2 \
+    "01${shard_key}1e0000000000000001000085000000f5477f2c0200000001000086000000de63465e" "0305006200000001100000007c$zeros15"
 says 'ranges: zeros, with waits: the record of the first cut' has_record RANGES 3 "$(onode 61)" \
     "01${shard_key}0f0000000000000001000085000000f5477f2c" "03050062000000011000000040$zeros15"
 says 'ranges: zeros, with waits: the object' has_object 4095 aca65e2f
@@ -395,9 +411,9 @@ says 'ranges: one data unit: the object' has_object 1 20eb33c7
 # What ends behind an object's most bytes is refused. What changes nothing has a record without operations.
 lines 'zero 1.0_head a 134217728 1' 'truncate 1.0_head q 134217729' 'write 1.0_head a 134217728 hex:41' 'truncate 1.0_head q 134217728' \
     'remove 1.0_head q' 'stat 1.0_head q' 'zero 1.0_head a 134217728 0' 'stat 1.0_head a' 'zero 1.0_head a 134217727 1' 'stat 1.0_head a'
-on_new ranges 8 64
-says 'ranges: the most bytes' ended 0 '0:1 ok' '0:2 E8 TooBig' '0:3 E8 TooBig' '0:4 E8 TooBig' '0:5 ok' '0:6 ok' '0:7 E4 NoObject' '0:8 ok' \
-    '0:9 size 0' '0:10 ok' '0:11 size 134217728' 'done accepted=5 refused=4 reads=2 commits=5 free=46'
+on_new waiting 8 64
+says 'ranges: the most bytes' ended 0 '0:1 ok' '0:3 E8 TooBig' '0:5 E8 TooBig' '0:7 E8 TooBig' '0:9 ok' '0:11 ok' '0:13 E4 NoObject' '0:15 ok' \
+    '0:17 size 0' '0:19 ok' '0:21 size 134217728' 'done accepted=5 refused=4 reads=2 commits=5 free=46'
 says 'ranges: the record of a truncate that changes nothing' has_record RANGES 1
 says 'ranges: the record of a removal that changes nothing' has_record RANGES 2
 says 'ranges: the record of no zeros' has_record RANGES 3 "$(onode 61 0)"
@@ -419,8 +435,8 @@ says 'ranges: a changed byte: it is gone' has_object 4096 6174a978
 # Page 0 stands on unit 130. What was put on unit 131 is cleared, and its page is put again, on unit 132.
 lines begin 'write 1.0_head a 0 fill:61:8192' 'write 1.0_head a 4095 hex:7a7a' 'zero 1.0_head a 4096 4096' 'write 1.0_head a 8191 hex:62' end \
     'read 1.0_head a 4094 4' 'read 1.0_head a 8190 2'
-on_new ranges 64 256
-says 'blocks: writes of the same pages' ended 0 '0:1 ok' '0:2 ok' '0:8 data 617a0000' '0:9 data 0062' \
+on_new waiting 64 256
+says 'blocks: writes of the same pages' ended 0 '0:1 ok' '0:3 ok' '0:10 data 617a0000' '0:12 data 0062' \
     'done accepted=2 refused=0 reads=2 commits=2 free=124'
 says 'blocks: writes of the same pages: the first' holds 130 61:4095 7a:1
 says 'blocks: writes of the same pages: the one that was cleared' holds 131 00:4096
@@ -431,8 +447,8 @@ says 'blocks: writes of the same pages: the object' has_object 8192 bfdf6233
 
 # What an object had goes with it, and nothing of it is written.
 lines begin 'write 1.0_head b 0 fill:63:4096' 'remove 1.0_head b' end 'write 1.0_head a 0 hex:64' 'list 1.0_head'
-on_new ranges 64 256
-says 'blocks: an object that comes and goes' ended 0 '0:1 ok' '0:2 ok' '0:6 ok' '0:7 objects a' \
+on_new waiting 64 256
+says 'blocks: an object that comes and goes' ended 0 '0:1 ok' '0:3 ok' '0:8 ok' '0:10 objects a' \
     'done accepted=3 refused=0 reads=1 commits=3 free=125'
 says 'blocks: an object that comes and goes: the record' has_record RANGES 1
 says 'blocks: an object that comes and goes: its unit has another page' holds 130 64:1 00:4095
@@ -477,8 +493,8 @@ pair_key=0e004d312e305f68656164006f002e6b
 third_key=0f004d312e305f68656164006f002e6b33
 lines begin 'touch 1.0_head o' 'omapheader 1.0_head o hex:77' 'omapset 1.0_head o k hex:01' end \
     begin 'omapset 1.0_head o k2 hex:02' 'omapclear 1.0_head o' 'omapset 1.0_head o k3 hex:03 k3 hex:04' end
-on_new ranges 8 64
-says 'blocks: values' ended 0 '0:1 ok' '0:2 ok' '0:7 ok' 'done accepted=3 refused=0 reads=0 commits=3 free=46'
+on_new waiting 8 64
+says 'blocks: values' ended 0 '0:1 ok' '0:3 ok' '0:9 ok' 'done accepted=3 refused=0 reads=0 commits=3 free=46'
 says 'blocks: values: the record' has_record RANGES 2 "02$header_key" "02$pair_key" "01${third_key}0100000004"
 run dump RANGES
 says 'blocks: values: what is left' ended 0 'coll 1.0_head' 'object o size 0 crc 00000000' 'omap k3 04' 'end'
@@ -486,8 +502,9 @@ says 'blocks: values: what is left' ended 0 'coll 1.0_head' 'object o size 0 crc
 # A collection that goes and comes in a block stays.
 printf '%s\n' begin 'mkcoll 1.0_head' 'touch 1.0_head a' end begin 'remove 1.0_head a' 'rmcoll 1.0_head' 'mkcoll 1.0_head' end \
     'rmcoll 1.0_head' 'touch 1.0_head a' >ranges
-on_new ranges 8 64
-says 'blocks: a collection that goes and comes' ended 0 '0:1 ok' '0:5 ok' '0:10 ok' '0:11 E1 NoCollection' \
+with_waits
+on_new waiting 8 64
+says 'blocks: a collection that goes and comes' ended 0 '0:1 ok' '0:6 ok' '0:12 ok' '0:14 E1 NoCollection' \
     'done accepted=3 refused=1 reads=0 commits=3 free=46'
 says 'blocks: a collection that goes and comes: the first record' has_record RANGES 0 01090043312e305f6865616400000000 "$(onode 61 0)"
 says 'blocks: a collection that goes and comes: the second record' has_record RANGES 1 "02$onode_key"
@@ -589,7 +606,9 @@ says 'dump: an object with a hole' ended 0 'coll 1.0_head' 'object a size 0 crc 
 
 # The session of the README.
 run mkfs SESSION "${small[@]}"
-run step SESSION --seed 1 script
+printf 'mkcoll 1.0_head\nwrite 1.0_head a 0 fill:5a:4096\nwait\n' >begin
+run step SESSION --seed 1 begin
+says 'the README: a collection and a page' ended 0 '0:1 ok' '0:2 ok' 'done accepted=2 refused=0 reads=0 commits=2 free=45'
 printf 'read 1.0_head a 4094 9\nsum 1.0_head a\nlist 1.0_head\nstat 1.0_head b\n' >look
 run step SESSION --seed 2 look
 says 'the session: a look' ended 0 '0:1 data 5a5a' '0:2 sum 4096 37f18c49' '0:3 objects a' '0:4 E4 NoObject' \
@@ -681,12 +700,12 @@ head -c 262144 /dev/zero >ZEROS
 run step ZEROS --seed 1 script
 says 'step: no store' ended 4 'mount NoSuper' 'stopped 4'
 
-# The same replies for each seed; the store differs at most in nothing, since one client runs alone.
+# The same replies for each seed, and the same store, since one client runs alone and waits for each of its transactions.
 same=yes
 for seed in 0 2 3 7 50 4294967295; do
     run mkfs SEED "${small[@]}"
     run step SEED --seed "$seed" script
-    ended 0 '0:1 ok' '0:2 ok' 'done accepted=2 refused=0 reads=0 commits=2 free=45' && cmp -s SEED BEFORE || same=no
+    ended 0 '0:1 ok' '0:3 ok' 'done accepted=2 refused=0 reads=0 commits=2 free=45' && cmp -s SEED BEFORE || same=no
 done
 says 'step: other seeds' test "$same" = yes
 
@@ -806,7 +825,7 @@ forge FORGED 1 1 40
 run dump FORGED
 says 'forged: a slot whose half has no record' ended 0 'end'
 run step FORGED --seed 1 script
-says 'forged: a slot whose half has no record: it is written' ended 0 '0:1 ok' '0:2 ok' 'done accepted=2 refused=0 reads=0 commits=2 free=45'
+says 'forged: a slot whose half has no record: it is written' ended 0 '0:1 ok' '0:3 ok' 'done accepted=2 refused=0 reads=0 commits=2 free=45'
 python3 "$top/tests/log_record.py" 40 01090043312e305f6865616400000000 >wanted_record
 unit 10 FORGED >found
 says 'forged: a slot whose half has no record: its number' cmp -s found wanted_record

@@ -88,7 +88,7 @@ fn is_found_whole(alloc: Global) -> Result<bool, AllocError> {
 fn sealed(alloc: Global, more: u8) -> Result<SealedRecord, AllocError> {
     let key = Bytes::from_slice(alloc, b"C1.0_head")?;
     let value = Bytes::from_vec(vec![in alloc; 0xabu8; usize::from(more) * UNIT]?);
-    SealedRecord::seal(alloc, 7, &vec![in alloc; RowOp::Set { key, value }]?)
+    SealedRecord::seal(alloc, 7, vec![in alloc; RowOp::Set { key, value }]?)
 }
 
 // A half of 66 units with the first pieces of such a record, in the order of writing.

@@ -10,7 +10,7 @@ from html import escape
 
 LINE = re.compile(r"^(.*?)\s+(-?[\d.]+), (at least|at most) ([\d.]+): (within|BEYOND)$")
 COLORS = {"at least": "#7fb2dd", "at most": "#e8b96a"}
-MOST = 2.0
+MOST = 3.0
 LEFT, WIDTH = 470, 420
 
 
@@ -19,7 +19,7 @@ def ratios(files):
     for file in files:
         for line in open(file, encoding="utf-8"):
             found = LINE.match(line.rstrip())
-            if found and float(found[2]) <= 4 and not re.search(", in |memory|flushes", found[1]):
+            if found and float(found[2]) <= 10 and not re.search(", in |memory|flushes", found[1]):
                 yield found[1], float(found[2]), found[3], float(found[4]), found[5]
 
 
@@ -36,7 +36,7 @@ def main():
     print(f'<rect width="980" height="{height}" fill="#ffffff"/>')
     for how, x, text in (("at least", 20, "more is better"), ("at most", 170, "less is better")):
         print(f'<rect x="{x}" y="12" width="16" height="16" fill="{COLORS[how]}"/><text x="{x + 24}" y="25">{text}</text>')
-    print('<text x="320" y="25">| what is wanted</text>')
+    print(f'<text x="320" y="25">| what is wanted; bars end at {MOST:.0f}</text>')
     for at, (name, value, how, bound, verdict) in enumerate(rows):
         y = 48 + 26 * at
         color = "#d9534f" if verdict == "BEYOND" else COLORS[how]

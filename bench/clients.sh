@@ -7,6 +7,8 @@
 # - on a file in memory, three times a turn, the processor time of a transaction with 64 clients and with one.
 # - on that file, the time of one client's writes without a `wait`, beside the same with one behind each; and the peak memory of a
 #   transaction while all of them wait.
+# - how many flushes a transaction calls, by 1, 16 and 64 clients, and by 64 that don't wait: the most of three seeds, by a tracer, which no
+#   load changes; and the rate of 64 clients beside one where the tracer makes each flush take 5 ms more.
 # It says what is wanted of each ratio, and ends with status 1 where one is beyond that.
 # Usage: bench/clients.sh [TRANSACTIONS, a multiple of 64] [FOLDER ON THE DISK] [TURNS] [PROGRAM] [WRITES WITHOUT A WAIT, at most 16383]
 set -eu
@@ -21,6 +23,7 @@ many=${5:-16000}
 trap 'rm -rf "$made" "$memory"' EXIT
 gcc -O2 -o "$made/loop" "$here/step.c"
 most=$((count > many ? count : many))
+most=$((most > 6400 ? most : 6400))
 half=$((most + 100))
 units=$((2 * half + 2 + most + 100))
 dd if=/dev/zero of="$made/disk" bs=1M count=$((units / 256 + 1)) conv=fsync status=none
@@ -46,6 +49,10 @@ for clients in 1 16 64; do
 done
 scripts each 1 "$many" mkcoll 'wait\n'
 scripts all 1 "$many" mkcoll ''
+scripts few-1 1 320 mkcoll 'wait\n'
+scripts few-16 16 1600 mkcoll 'wait\n'
+scripts few-64 64 6400 mkcoll 'wait\n'
+scripts few-64-free 64 6400 mkcoll ''
 
 # steps WHERE NAME ACCEPTED: runs the scripts of this name on a new store in this folder, and adds a line of times: where and which, its
 # nanoseconds, its processor time in seconds, and its peak memory in KiB.
@@ -59,6 +66,27 @@ steps() {
   took=$(($(date +%s%N) - began))
   echo "${1##*/} $2 $took $(awk '{ print $1 + $2 }' "$made/used") $(tail -n 1 "$made/peak")" >>"$made/times"
   [[ $(tail -n 1 "$made/output") == "done accepted=$3 "* ]] || { tail -n 1 "$made/output"; exit 1; }
+}
+
+# traced OUTPUT NAME ACCEPTED WORDS: runs the scripts of this name under a tracer with these words, and tells the nanoseconds.
+traced() {
+  local began
+  "$program" mkfs "$memory/disk" --half "$half" --units "$units" >/dev/null
+  began=$(date +%s%N)
+  strace -qq -o "$1" -e trace=fdatasync "${@:4}" "$program" step "$memory/disk" --seed "$turn" "$made/$2"/* >"$made/output" || return
+  ended "$made/output" "done accepted=$3 "
+  echo $(($(date +%s%N) - began))
+}
+
+# flushes NAME BOUND TRANSACTIONS SCRIPTS: the most flushes that a transaction of these scripts calls.
+flushes() {
+  local most=0 found
+  for turn in 1 2 3; do
+    traced "$made/trace" "$4" "$3" >/dev/null
+    found=$(wc -l <"$made/trace")
+    most=$((found > most ? found : most))
+  done
+  wanted "flushes of a transaction, $1" "$(ratio "$most" "$3")" 'at most' "$2"
 }
 
 about
@@ -106,11 +134,26 @@ awk -v n="$count" -v many="$many" -v turns="$turns" -v disk="${made##*/}" -v mem
     each = time_of(memory " each") / 1e9
     without = time_of(memory " all") / 1e9
     printf "%d writes of one client  %6.3f s with a wait behind each, %.3f s without, peak memory %.1f MiB\n", many, each, without, peak[memory " all"] / 1024
-    wanted("64 clients against one", rate(64) / rate(1), 0.95, 0)
-    wanted("64 clients against the plain loop", rate(64) / plain, 0.75, 0)
+    wanted("64 clients against one", rate(64) / rate(1), 2.5, 0)
+    wanted("64 clients against the plain loop", rate(64) / plain, 1.75, 0)
     wanted("processor time, 64 clients against one", more / one, 1.25, 1)
     # Without a wait each write takes memory of its own; with one, that of the write before.
     wanted("time without a wait against with one", without / each, 1.6, 1)
     wanted("peak memory of a transaction without a wait, in KiB", peak[memory " all"] / many, 12, 1)
     exit beyond
-  }' "$made/times"
+  }' "$made/times" || echo BEYOND >"$made/beyond"
+
+: >"$made/told"
+if turn=1 traced "$made/trace" few-1 321 2>"$made/complaints" >/dev/null; then
+  flushes 'one client' 2 321 few-1
+  flushes '16 clients' 0.33 1616 few-16
+  flushes '64 clients' 0.13 6464 few-64
+  flushes '64 that do not wait' 0.08 6464 few-64-free
+  slow=(-e inject=fdatasync:delay_exit=5000)
+  one=$(turn=1 traced /dev/null few-1 321 "${slow[@]}")
+  all=$(turn=1 traced /dev/null few-64 6464 "${slow[@]}")
+  wanted '64 clients against one, flushes of 5 ms more' "$(ratio $((one * 6464)) $((all * 321)))" 'at least' 13
+else
+  echo "flushes aren't counted: $(head -n 1 "$made/complaints")"
+fi
+[ ! -e "$made/beyond" ] && ! grep -q BEYOND "$made/told"

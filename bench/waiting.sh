@@ -27,10 +27,10 @@ case_of() {
 case waiting
 store dev $half $units 0
 mount dev
-submit mkcoll 1.0_head
-submit mkcoll 2.0_head
-submit mkcoll 3.0_head
-submit mkcoll 4.0_head
+submit 1.0_head mkcoll
+submit 2.0_head mkcoll
+submit 3.0_head mkcoll
+submit 4.0_head mkcoll
 settle
 waiting $1 $2
 END

@@ -8,9 +8,10 @@ use Rattle.meta_rows.specs.Prelude.{Rows, rows_after}
 use Rattle.meta_rows.specs.declared.row_op.RowOp.{RowOp}
 use Rattle.meta_log.specs.declared.slot.Super.{Super}
 use Rattle.meta_log.specs.Prelude.{width_of}
-use Rattle.row_format.specs.Prelude.{bit_in, object_key, bitmap_key, coll_key, onode_key, Row, collection, onode, shard, attribute, omap_header, omap_pair, bitmap, row_key, row_value, FitsRow, FitsBitmap}
-use Rattle.row_format.proofs.Prelude.{same_head}
-use Rattle.store_image.specs.Prelude.{HasKey, HasRow, IsDataUnit, IsMarked, HasObject, AreOfData, IsInPlace, IsGoodRow, NoBadRow}
+use Rattle.row_format.specs.Prelude.{bit_in, object_key, bitmap_key, coll_key, onode_key, Row, onode, shard, bitmap, row_key, row_value, FitsRow, FitsBitmap}
+use Rattle.row_format.proofs.Prelude.{begins_b}
+use Rattle.store_image.specs.Prelude.{HasKey, HasRow, IsDataUnit, IsMarked, AreOfData, IsInPlace, IsGoodRow, NoBadRow}
+use Rattle.store_image.proofs.Prelude.{Carries, good_carried}
 use Rattle.bitmap_freelist.specs.Bitmap.{Units, Has, AreFlips, AreBitmapRows, NoneIsZero, IsOtherKey, AreAlikeButBits}
 use Rattle.bitmap_freelist.proofs.Bits.{bit_in-zeros}
 use Rattle.bitmap_freelist.proofs.Turning.{same_row, Turns, at_any, turn_their_units, stay_in_table, stay_some}
@@ -25,25 +26,20 @@ pub record IsOfTable (s : Super) (key value : List ℕ) : Type 0 where
   pub fits : FitsBitmap r value
   pub of_data : AreOfData s r value
 
--- of the good rows those whose keys begin with "b"
-by_kind : (s : Super) (rows : Rows) (row : Row) (rest value : List ℕ) → FitsRow (width_of s) row → 0x62 ∷ rest ≡ row_key row
-    → value ≡ row_value (width_of s) row
-    → IsInPlace s rows row → IsOfTable s (0x62 ∷ rest) value
-by_kind s rows (collection c) rest value fits key is place = absurd (omega (arith, same_head _ _ _ _ key))
-by_kind s rows (onode c o size) rest value fits key is place = absurd (omega (arith, same_head _ _ _ _ key))
-by_kind s rows (shard c o page extents) rest value fits key is place = absurd (omega (arith, same_head _ _ _ _ key))
-by_kind s rows (attribute c o name v) rest value fits key is place = absurd (omega (arith, same_head _ _ _ _ key))
-by_kind s rows (omap_header c o v) rest value fits key is place = absurd (omega (arith, same_head _ _ _ _ key))
-by_kind s rows (omap_pair c o k v) rest value fits key is place = absurd (omega (arith, same_head _ _ _ _ key))
-by_kind s rows (bitmap r bits) rest value fits key is place =
-    record { r = r; key_is = key; fits = subst (FitsBitmap r) (sym is) fits; of_data = subst (AreOfData s r) (sym is) place }
-
 -- where no row is bad
 pub of_table : (s : Super) (rows : Rows) (rest value : List ℕ) → NoBadRow s rows → map.get rows (0x62 ∷ rest) ≡ Some value
     → IsOfTable s (0x62 ∷ rest) value
 of_table s rows rest value good there =
     let found = good (0x62 ∷ rest) value there in
-    by_kind s rows found.row rest value found.fits found.key_is found.value_is found.in_place
+    let is = begins_b (width_of s) rest found.row found.fits found.key_is in
+    of is.0 is.1 (subst IsRow is.2 (found.fits, found.key_is, found.value_is, found.in_place))
+  where
+    IsRow : Row → Type 0
+    IsRow row = FitsRow (width_of s) row × (0x62 ∷ rest ≡ row_key row) × (value ≡ row_value (width_of s) row) × IsInPlace s rows row
+
+    of : (r : ℕ) (bits : List ℕ) → IsRow (bitmap r bits) → IsOfTable s (0x62 ∷ rest) value
+    of r bits is =
+        record { r = r; key_is = is.1; fits = subst (FitsBitmap r) (sym is.2) is.0; of_data = subst (AreOfData s r) (sym is.2) is.3 }
 
 -- then all rows under the keys of the table are of it
 pub bitmap_rows : (s : Super) (rows : Rows) → NoBadRow s rows → AreBitmapRows rows
@@ -83,30 +79,20 @@ module _ (s : Super) (rows other : Rows) (alike : AreAlikeButBits rows other) wh
   was : (row : Row) → IsOtherKey (row_key row) → HasRow (width_of s) other row → HasRow (width_of s) rows row
   was row is_other has = alike_has_row (width_of s) other rows row (alike_back rows other alike) is_other has
 
-  has_object : (c o : List ℕ) → HasObject rows c o → HasObject other c o
-  has_object c o has = (has_key (coll_key c) (coll_key_is_other c) has.0, has_key (onode_key c o) (keys c o _) has.1)
-
   -- what a row needs of the others isn't bits
-  alike_in_place : (row : Row) → IsInPlace s rows row → IsInPlace s other row
-  alike_in_place (collection c) is = tt
-  alike_in_place (onode c o size) is = (has_key (coll_key c) (coll_key_is_other c) is.0, is.1)
-  alike_in_place (shard c o page extents) is = record {
-    has_collection = has_key (coll_key c) (coll_key_is_other c) is.has_collection;
-    has_onode = has_key (onode_key c o) (keys c o _) is.has_onode;
-    ascend = is.ascend;
-    behind = λ earlier es before there. is.behind earlier es before (was (shard c o earlier es) (keys c o _) there);
-    within = λ size there. is.within size (was (onode c o size) (keys c o _) there);
-    on_data = is.on_data;
+  carries : Carries s s rows other
+  carries = record {
+    coll = λ c. has_key (coll_key c) (coll_key_is_other c);
+    onode = λ c o. has_key (onode_key c o) (keys c o _);
+    was_size = λ c o size. was (onode c o size) (keys c o _);
+    was_shard = λ c o page es. was (shard c o page es) (keys c o _);
+    on_data = λ b is. is;
+    of_data = λ unit is. is;
   }
-  alike_in_place (attribute c o name value) is = has_object c o is
-  alike_in_place (omap_header c o value) is = has_object c o is
-  alike_in_place (omap_pair c o key value) is = has_object c o is
-  alike_in_place (bitmap r bits) is = is
 
   -- so a good row stays good
   pub alike_good : (key value : List ℕ) → IsGoodRow s rows key value → IsGoodRow s other key value
-  alike_good key value is =
-      record { row = is.row; fits = is.fits; key_is = is.key_is; value_is = is.value_is; in_place = alike_in_place is.row is.in_place }
+  alike_good = good_carried s s rows other carries
 
 module _ (s : Super) (rows : Rows) (units : Units) (ops : List RowOp) (are : AreFlips units ops)
     (data_units : (unit : ℕ) → Has units unit → IsDataUnit s unit) (good : NoBadRow s rows) where

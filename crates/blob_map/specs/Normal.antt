@@ -38,9 +38,9 @@ extents_of [] = []
 extents_of (p ∷ ps) = extents_from (single p) ps
 
 -- the same where there may be an extent already that the first page follows
-abbrev pub finished : Option Extent → List (ℕ × Place) → List Extent
-finished None ps = extents_of ps
-finished (Some e) ps = extents_from e ps
+abbrev pub extents_finished : Option Extent → List (ℕ × Place) → List Extent
+extents_finished None ps = extents_of ps
+extents_finished (Some e) ps = extents_from e ps
 
 -- the second extent begins where the first ends, on the next unit, and the first has fewer than 256 pages
 pub record Joins (e f : Extent) : Type 0 where

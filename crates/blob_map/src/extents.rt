@@ -2,7 +2,7 @@
 ghost use Rattle.std.specs.Prelude.{◌≡◌, ◌++◌, ◌∷◌, ℕ, true, List, IfOk, IfSome, OnOk};
 ghost use Rattle.std.specs.List.{AllByRecursion};
 ghost use Rattle.row_format.specs.Prelude.{Place, FitsExtent};
-ghost use Rattle.blob_map.specs.Normal.{single, follows, more, extents_from, extents_of, finished};
+ghost use Rattle.blob_map.specs.Normal.{single, follows, more, extents_from, extents_of, extents_finished};
 
 use crate::place::Place;
 use byte_maps::Items;
@@ -60,7 +60,7 @@ fn next(
     requires fit { AllByRecursion (FitsExtent width) done.old.items }
     requires last_fits { IfSome last (FitsExtent width) }
     ensures same { IfOk result (λ e. (ps : List (ℕ × Place)) →
-        done.new.items ++ extents_from e ps ≡ done.old.items ++ finished last ((page, place.now) ∷ ps)) }
+        done.new.items ++ extents_from e ps ≡ done.old.items ++ extents_finished last ((page, place.now) ∷ ps)) }
     ensures fits { IfOk result (FitsExtent width) }
     ensures fit { OnOk result (AllByRecursion (FitsExtent width) done.new.items) }
 {

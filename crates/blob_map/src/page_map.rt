@@ -4,7 +4,7 @@ ghost use Rattle.std.specs.Ordering.{nat_cmp};
 ghost use Rattle.std.specs.List.{AllByRecursion};
 ghost use Rattle.std.specs.FinMap as map;
 ghost use Rattle.std.specs.FinMap.Entries.{where_key};
-ghost use Rattle.number_map.specs.NumberMap.{is_in};
+ghost use Rattle.number_map.specs.NumberMap.{is_key_in};
 ghost use Rattle.row_format.specs.Prelude.{Place, FitsExtent};
 ghost use Rattle.blob_map.specs.Normal.{extents_of};
 
@@ -70,8 +70,8 @@ impl PageMap {
         count: u32,
     ) -> Result<Vec<(u32, Place)>, AllocError>
         requires { first + count < 2 ^ 32 }
-        ensures ok { OnOk result (self.new ≡ map.retain_keys self.old (λ k. not (is_in first (first + count) k))) }
-        ensures was { IfOk result (λ v. v.items ≡ where_key nat_cmp (is_in first (first + count)) (map.entries self.old)) }
+        ensures ok { OnOk result (self.new ≡ map.retain_keys self.old (λ k. not (is_key_in first (first + count) k))) }
+        ensures was { IfOk result (λ v. v.items ≡ where_key nat_cmp (is_key_in first (first + count)) (map.entries self.old)) }
         ensures err { OnErr result (self.new ≡ self.old) }
     {
         self.pages.cut(alloc, first, first + count)

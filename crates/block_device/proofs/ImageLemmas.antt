@@ -6,7 +6,7 @@ use Rattle.std.proofs.lemmas.Bool.Decides.{nat_tests}
 use Rattle.std.proofs.lemmas.List.{length-take-le, get_or-replicate, length-replicate, take_more, take_all}
 use Rattle.byte_maps.specs.Units.{unit_at, overlaid, Covers, IsUnits}
 use Rattle.byte_maps.proofs.Prelude.{length-overlaid, unit_at-laid_inside}
-use Rattle.block_device.specs.Prelude.{after_event, last, WritesUnit, IsClean, IsCrashImage, covers, is_stable, first_unstable, is_dirty, reaches, held_after, held_from, landed_unit, torn_unit, noise, IsTornImage, IsWhole, AllFit, is_laid, mark, laid_unit, IsPut}
+use Rattle.block_device.specs.Prelude.{after_event, last, WritesUnit, IsClean, IsCrashImage, covers, is_stable, first_unstable, is_dirty, reaches, held_after_event, held_from, landed_unit, torn_unit, noise, IsTornImage, IsWholeEvent, IsWholeLog, is_laid, mark, laid_unit, IsPut}
 use Rattle.block_device.proofs.LogLemmas.{unit_at-after_event, slice_get-push_cases, slice_get-lt, slice_get-is, slice_get-take}
 use Rattle.block_device.proofs.Places.{covers-means, is_stable-means, first_unstable-le, first_unstable-holds, clean_end}
 use Rattle.block_device.proofs.PutLemmas.{unit_at-laid_one}
@@ -36,19 +36,19 @@ image_start tear units n start image log marks whole is n_is are = record {
 
 -- one more event
 
-held_from-push : (reached : ℕ → ℕ → Bool) (k n : ℕ) (held : List ℕ) (log : List Event) (event : Event) → held_from reached k n held (log ++ event ∷ []) ≡ held_after (reached (n + length log)) k (held_from reached k n held log) event
-held_from-push reached k n held [] event = ap (λ (m : ℕ). held_after (reached m) k held event) (omega arith)
+held_from-push : (reached : ℕ → ℕ → Bool) (k n : ℕ) (held : List ℕ) (log : List Event) (event : Event) → held_from reached k n held (log ++ event ∷ []) ≡ held_after_event (reached (n + length log)) k (held_from reached k n held log) event
+held_from-push reached k n held [] event = ap (λ (m : ℕ). held_after_event (reached m) k held event) (omega arith)
 held_from-push reached k n held (e ∷ log) event =
-    held_from-push reached k (n + 1) (held_after (reached n) k held e) log event
-    ∙ ap (λ (m : ℕ). held_after (reached m) k (held_from reached k (n + 1) (held_after (reached n) k held e) log) event) (omega arith)
+    held_from-push reached k (n + 1) (held_after_event (reached n) k held e) log event
+    ∙ ap (λ (m : ℕ). held_after_event (reached m) k (held_from reached k (n + 1) (held_after_event (reached n) k held e) log) event) (omega arith)
 
 held_more : (reached : ℕ → ℕ → Bool) (k place : ℕ) (held : List ℕ) (log : List Event) (event : Event) → place < length log → event ≡ get_or log place event
-    → held_from reached k 0 held (take (place + 1) log) ≡ held_after (reached place) k (held_from reached k 0 held (take place log)) event
+    → held_from reached k 0 held (take (place + 1) log) ≡ held_after_event (reached place) k (held_from reached k 0 held (take place log)) event
 held_more reached k place held log event below is =
     let front : length (take place log) ≡ place = length-take-le place log (omega arith) in
     ap (λ l. held_from reached k 0 held l) (take_more log place event below ∙ ap (λ e. take place log ++ e ∷ []) (sym is))
     ∙ held_from-push reached k 0 held (take place log) event
-    ∙ ap (λ (m : ℕ). held_after (reached m) k (held_from reached k 0 held (take place log)) event) (omega arith)
+    ∙ ap (λ (m : ℕ). held_after_event (reached m) k (held_from reached k 0 held (take place log)) event) (omega arith)
 
 -- an event that is no unstable write of the unit is not the first one
 first_other : (log : List Event) (k place : ℕ) (event : Event) → slice_get log place ≡ Some event → (WritesUnit k event → is_stable log place ≡ true) → first_unstable log k ≢ place
@@ -92,10 +92,10 @@ laid_reaches First log k place j event stable there covers is = ap (λ (b : Bool
 laid_reaches Odd log k place j event stable there covers is = ap (λ (b : Bool). b || (j % 2 == 1)) is
 laid_reaches Noise log k place j event stable there covers is = held_back log k place event stable there covers is
 
-held_covered : (reached : ℕ → Bool) (k at : ℕ) (held bytes : List ℕ) → Covers at bytes k → held_after reached k held (Write at bytes) ≡ (if reached (k - at) then unit_at (k - at) bytes else held)
+held_covered : (reached : ℕ → Bool) (k at : ℕ) (held bytes : List ℕ) → Covers at bytes k → held_after_event reached k held (Write at bytes) ≡ (if reached (k - at) then unit_at (k - at) bytes else held)
 held_covered reached k at held bytes c = ap (λ (b : Bool). if b && reached (k - at) then unit_at (k - at) bytes else held) ((covers-means at bytes k).1 c)
 
-held_apart : (reached : ℕ → Bool) (k : ℕ) (held : List ℕ) (event : Event) → ¬ WritesUnit k event → held_after reached k held event ≡ held
+held_apart : (reached : ℕ → Bool) (k : ℕ) (held : List ℕ) (event : Event) → ¬ WritesUnit k event → held_after_event reached k held event ≡ held
 held_apart reached k held (Write at bytes) apart = elim (cases_Bool (covers at bytes k)) [
   | inl covered ↦ absurd (apart ((covers-means at bytes k).0 covered))
   | inr uncovered ↦ ap (λ (b : Bool). if b && reached (k - at) then unit_at (k - at) bytes else held) uncovered
@@ -116,7 +116,7 @@ pub image_write : (tear : Tear) (place : ℕ) (start : List ℕ) (log : List Eve
 image_write tear place start log at bytes image image' marks marks' event stable s below is is_write decides put =
     let there : slice_get log place ≡ Some (Write at bytes) = slice_get-is log place event below is ∙ ap (λ e. Some e) is_write in
     let is' : Write at bytes ≡ get_or log place (Write at bytes) = subst (λ e. e ≡ get_or log place e) is_write is in
-    let more : (k : ℕ) → held_from (reaches tear log k) k 0 (unit_at k start) (take (place + 1) log) ≡ held_after (reaches tear log k place) k (held_from (reaches tear log k) k 0 (unit_at k start) (take place log)) (Write at bytes) =
+    let more : (k : ℕ) → held_from (reaches tear log k) k 0 (unit_at k start) (take (place + 1) log) ≡ held_after_event (reaches tear log k place) k (held_from (reaches tear log k) k 0 (unit_at k start) (take place log)) (Write at bytes) =
     λ k. held_more (reaches tear log k) k place (unit_at k start) log (Write at bytes) below is' in
     record {
       size = put.size ∙ s.size;
@@ -200,33 +200,33 @@ filled_more k filling image image' old torn size fits is_torn is before unit who
 
 -- each image of a tear is a crash image
 
-pub length-last : (start : List ℕ) (log : List Event) → AllFit (length start) log → length (last start log) ≡ length start
+pub length-last : (start : List ℕ) (log : List Event) → IsWholeLog (length start) log → length (last start log) ≡ length start
 length-last start [] fits = refl
 length-last start (e ∷ log) fits =
     let size : length (after_event start e) ≡ length start = length_whole e start (fits 0 e refl) in
-    length-last (after_event start e) log (λ place event there. subst (λ (n : ℕ). IsWhole n event) (sym size) (fits (suc place) event there)) ∙ size
+    length-last (after_event start e) log (λ place event there. subst (λ (n : ℕ). IsWholeEvent n event) (sym size) (fits (suc place) event there)) ∙ size
   where
-    length_whole : (e : Event) (bytes : List ℕ) → IsWhole (length bytes) e → length (after_event bytes e) ≡ length bytes
+    length_whole : (e : Event) (bytes : List ℕ) → IsWholeEvent (length bytes) e → length (after_event bytes e) ≡ length bytes
     length_whole (Write at piece) bytes whole = length-overlaid at piece bytes whole.0
     length_whole Flush bytes whole = refl
     length_whole (Done ticket ok) bytes whole = refl
 
 -- where each write of the unit reaches the disk the unit is as last written
-landed_last : (reached : ℕ → ℕ → Bool) (k n : ℕ) (held bytes : List ℕ) (log : List Event) → AllFit (length bytes) log → held ≡ unit_at k bytes
+landed_last : (reached : ℕ → ℕ → Bool) (k n : ℕ) (held bytes : List ℕ) (log : List Event) → IsWholeLog (length bytes) log → held ≡ unit_at k bytes
     → ((i : ℕ) (event : Event) (j : ℕ) → slice_get log i ≡ Some event → WritesUnit k event → reached (n + i) j ≡ true) → held_from reached k n held log ≡ unit_at k (last bytes log)
 landed_last reached k n held bytes [] fits is all = is
 landed_last reached k n held bytes (e ∷ log) fits is all =
-    landed_last reached k (n + 1) (held_after (reached n) k held e) (after_event bytes e) log
-    (λ place event there. subst (λ (m : ℕ). IsWhole m event) (sym (size e (fits 0 e refl))) (fits (suc place) event there))
+    landed_last reached k (n + 1) (held_after_event (reached n) k held e) (after_event bytes e) log
+    (λ place event there. subst (λ (m : ℕ). IsWholeEvent m event) (sym (size e (fits 0 e refl))) (fits (suc place) event there))
     (now e (fits 0 e refl) (λ j c. ap (λ (m : ℕ). reached m j) (omega arith) ∙ all 0 e j refl c))
     (λ i event j there c. ap (λ (m : ℕ). reached m j) (omega arith) ∙ all (suc i) event j there c)
   where
-    size : (e : Event) → IsWhole (length bytes) e → length (after_event bytes e) ≡ length bytes
+    size : (e : Event) → IsWholeEvent (length bytes) e → length (after_event bytes e) ≡ length bytes
     size (Write at piece) whole = length-overlaid at piece bytes whole.0
     size Flush whole = refl
     size (Done ticket ok) whole = refl
 
-    now : (e : Event) → IsWhole (length bytes) e → ((j : ℕ) → WritesUnit k e → reached n j ≡ true) → held_after (reached n) k held e ≡ unit_at k (after_event bytes e)
+    now : (e : Event) → IsWholeEvent (length bytes) e → ((j : ℕ) → WritesUnit k e → reached n j ≡ true) → held_after_event (reached n) k held e ≡ unit_at k (after_event bytes e)
     now (Write at piece) whole lands = elim (cases_covers at piece k) [
       | inl c ↦
           held_covered (reached n) k at held piece c ∙ ap (λ (b : Bool). if b then unit_at (k - at) piece else held) (lands (k - at) c)
@@ -259,7 +259,7 @@ unit_past k bytes past = take_none (drop (4096 * k) bytes) (omega (arith, length
     take_none [] none = refl
     take_none (x ∷ xs) none = absurd (omega arith)
 
-pub torn_is_crash : (tear : Tear) (units : ℕ) (start : List ℕ) (log : List Event) (image : List ℕ) → IsUnits units start → AllFit (length start) log → IsTornImage tear start log image → IsCrashImage start log image
+pub torn_is_crash : (tear : Tear) (units : ℕ) (start : List ℕ) (log : List Event) (image : List ℕ) → IsUnits units start → IsWholeLog (length start) log → IsTornImage tear start log image → IsCrashImage start log image
 torn_is_crash tear units start log image whole fits torn = record {
   size = torn.size;
   clean = λ k clean. elim (cases_lt k units) [
@@ -272,11 +272,11 @@ torn_is_crash tear units start log image whole fits torn = record {
 
 -- the log's writes fit
 
-pub all_fit_push : (size : ℕ) (log log' : List Event) (event : Event) → AllFit size log → log' ≡ log ++ event ∷ [] → IsWhole size event → AllFit size log'
-all_fit_push size log log' event fits is whole = subst (λ l. AllFit size l) (sym is) (λ place e there. elim (slice_get-push_cases log event e place there) [
+pub all_fit_push : (size : ℕ) (log log' : List Event) (event : Event) → IsWholeLog size log → log' ≡ log ++ event ∷ [] → IsWholeEvent size event → IsWholeLog size log'
+all_fit_push size log log' event fits is whole = subst (λ l. IsWholeLog size l) (sym is) (λ place e there. elim (slice_get-push_cases log event e place there) [
   | inl old ↦ fits place e old
-  | inr new ↦ subst (λ x. IsWhole size x) new.1 whole
+  | inr new ↦ subst (λ x. IsWholeEvent size x) new.1 whole
 ])
 
-pub all_fit_take : (size n : ℕ) (log : List Event) → AllFit size log → AllFit size (take n log)
+pub all_fit_take : (size n : ℕ) (log : List Event) → IsWholeLog size log → IsWholeLog size (take n log)
 all_fit_take size n log fits place event there = fits place event (slice_get-take n log place event there)

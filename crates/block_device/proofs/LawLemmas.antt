@@ -4,7 +4,7 @@ use Rattle.std.specs.Prelude.{Contains, slice_get}
 use Rattle.std.proofs.lemmas.List.{append-nil}
 use Rattle.std.proofs.lemmas.List.Elements.{All-head, All-tail, Contains-push}
 use Rattle.byte_maps.specs.Units.{unit_at, Covers, IsUnits}
-use Rattle.block_device.specs.Prelude.{after_event, last, WritesUnit, WritesNothing, IsStable, IsClean, IsDirty, IsCrashImage, IsAnsweredOnce, IsCovered, is_dirty, AllFit}
+use Rattle.block_device.specs.Prelude.{after_event, last, WritesUnit, WritesNothing, IsStable, IsClean, IsDirty, IsCrashImage, IsAnsweredOnce, IsCovered, is_dirty, IsWholeLog}
 use Rattle.block_device.proofs.LogLemmas.{last-push, slice_get-last, slice_get-push_cases, slice_get-lt, slice_get-is, flush_push, flush_submitted, stable_push, stable_done, clean_push}
 use Rattle.block_device.proofs.Places.{is_dirty-means, not_dirty-means}
 use Rattle.block_device.proofs.ImageLemmas.{length-last}
@@ -43,7 +43,7 @@ images_shrink start log (e ∷ more) image none is =
 
 -- a clean device
 
-pub clean_one : (units : ℕ) (start : List ℕ) (log : List Event) (image : List ℕ) → IsUnits units start → AllFit (length start) log → ((k : ℕ) → IsClean log k) → IsCrashImage start log image ↔ (image ≡ last start log)
+pub clean_one : (units : ℕ) (start : List ℕ) (log : List Event) (image : List ℕ) → IsUnits units start → IsWholeLog (length start) log → ((k : ℕ) → IsClean log k) → IsCrashImage start log image ↔ (image ≡ last start log)
 clean_one units start log image whole fits clean =
     let size : length (last start log) ≡ length start = length-last start log fits in (
       λ is. clean_image start log image units (omega (arith, whole, size)) size clean is,

@@ -4,7 +4,7 @@ use Rattle.std.proofs.lemmas.List.{map_push, length-map, length_push, length-tak
 use Rattle.std.proofs.lemmas.List.Elements.{All-contains}
 use Rattle.byte_maps.specs.Units.{unit_at, units_from}
 use Rattle.byte_maps.proofs.Prelude.{unit_at-part}
-use Rattle.block_device.specs.Prelude.{last, after_event, Submitted, Reaped, Waited, HasRead, IsSound, flight_of, find_flight, without, IsWhole, flight, lowered, others, AreOpen, IsPatient, WasTaken, NoneWasReady, MemoryDisk, IsMemoryDisk, disk_of}
+use Rattle.block_device.specs.Prelude.{last, after_event, Submitted, Reaped, Waited, HasRead, IsSound, flight_of, find_flight, without, IsWholeEvent, flight, lowered, others, AreOpen, IsPatient, WasTaken, NoneWasReady, MemoryDisk, IsMemoryDisk, disk_of}
 use Rattle.block_device.proofs.LogLemmas.{last-push}
 use Rattle.block_device.proofs.ImageLemmas.{length-last, all_fit_push}
 use Rattle.block_device.proofs.AnswerLemmas.{answers_submitted, answers_lowered, answers_done}
@@ -33,7 +33,7 @@ sound_kept d k = record {
 -- a submission
 
 pub kept_submit : (d : MemoryDisk) (event : Event) (p : Pending) (log' : List Event) (ps' : List Pending) (writes flushes : ℕ) → IsMemoryDisk d → length d.pending < 64
-    → IsWhole (length d.start) event → ((t : ℕ) (o : Bool) → event ≢ Done t o) → p.ticket ≡ length d.log → p.lag ≤ 63 → writes + flushes ≡ d.writes + d.flushes + 1
+    → IsWholeEvent (length d.start) event → ((t : ℕ) (o : Bool) → event ≢ Done t o) → p.ticket ≡ length d.log → p.lag ≤ 63 → writes + flushes ≡ d.writes + d.flushes + 1
     → log' ≡ d.log ++ event ∷ [] → ps' ≡ d.pending ++ p ∷ [] → IsMemoryDisk (record d { log = log'; pending = ps'; writes = writes; flushes = flushes })
 kept_submit d event p log' ps' writes flushes k room whole none place low more log_is ps_is =
     let size : length (d.log ++ event ∷ []) ≡ length d.log + 1 = length_push d.log event in

@@ -20,15 +20,15 @@ reaches Odd log k place j = is_stable log place || (j % 2 == 1)
 reaches Noise log k place j = nat_lt place (first_unstable log k)
 
 -- what unit k holds after an event, where it held these bytes, if just these units of a write reach the disk
-abbrev pub held_after : (ℕ → Bool) → ℕ → List ℕ → Event → List ℕ
-held_after reached k held (Write at bytes) = (if covers at bytes k && reached (k - at) then unit_at (k - at) bytes else held)
-held_after reached k held Flush = held
-held_after reached k held (Done ticket ok) = held
+abbrev pub held_after_event : (ℕ → Bool) → ℕ → List ℕ → Event → List ℕ
+held_after_event reached k held (Write at bytes) = (if covers at bytes k && reached (k - at) then unit_at (k - at) bytes else held)
+held_after_event reached k held Flush = held
+held_after_event reached k held (Done ticket ok) = held
 
 -- what it holds after the events from place n on
 abbrev pub held_from : (ℕ → ℕ → Bool) → ℕ → ℕ → List ℕ → List Event → List ℕ
 held_from reached k n held [] = held
-held_from reached k n held (event ∷ log) = held_from reached k (n + 1) (held_after (reached n) k held event) log
+held_from reached k n held (event ∷ log) = held_from reached k (n + 1) (held_after_event (reached n) k held event) log
 
 -- unit k without noise: what the writes leave that reach it, in order
 abbrev pub landed_unit : Tear → List ℕ → List Event → ℕ → List ℕ
@@ -48,11 +48,11 @@ pub record IsTornImage (tear : Tear) (start : List ℕ) (log : List Event) (imag
   pub units : (k : ℕ) → 4096 * k + 4096 ≤ length start → unit_at k image ≡ torn_unit tear start log k
 
 -- the event is whole units inside a device of this length
-abbrev pub IsWhole : ℕ → Event → Type 0
-IsWhole size (Write at bytes) = (4096 * at + length bytes ≤ size) × (count : ℕ) × IsUnits count bytes
-IsWhole size Flush = Unit {0}
-IsWhole size (Done ticket ok) = Unit {0}
+abbrev pub IsWholeEvent : ℕ → Event → Type 0
+IsWholeEvent size (Write at bytes) = (4096 * at + length bytes ≤ size) × (count : ℕ) × IsUnits count bytes
+IsWholeEvent size Flush = Unit {0}
+IsWholeEvent size (Done ticket ok) = Unit {0}
 
 -- each write of the log is
-abbrev pub AllFit : ℕ → List Event → Type 0
-AllFit size log = (place : ℕ) (event : Event) → slice_get log place ≡ Some event → IsWhole size event
+abbrev pub IsWholeLog : ℕ → List Event → Type 0
+IsWholeLog size log = (place : ℕ) (event : Event) → slice_get log place ≡ Some event → IsWholeEvent size event

@@ -3,7 +3,7 @@ use Rattle.std.specs.Prelude.{◌≡◌, ◌↔◌, ℕ, ◌+◌, List, [], ◌�
 use Rattle.byte_maps.specs.Units.{unit_at, Covers, IsUnits}
 use Rattle.block_device.specs.Log.{last, WritesNothing, IsStable, IsClean, IsDirty, IsCrashImage, IsAnsweredOnce}
 use Rattle.block_device.specs.Tests.{is_dirty}
-use Rattle.block_device.specs.Image.{IsTornImage, AllFit}
+use Rattle.block_device.specs.Image.{IsTornImage, IsWholeLog}
 use Rattle.block_device.specs.declared.event.Event.{Event}
 use Rattle.block_device.specs.declared.event.Event.TheVariants.{Write, Flush, Done}
 use Rattle.block_device.specs.declared.image.Tear.{Tear}
@@ -11,7 +11,7 @@ use Rattle.block_device.specs.declared.image.Tear.{Tear}
 -- where no unit is dirty a crash leaves what was last written, and nothing else
 abbrev pub CleanHasOneImage : Type 0
 CleanHasOneImage =
-    (units : ℕ) (start : List ℕ) (log : List Event) (image : List ℕ) → IsUnits units start → AllFit (length start) log
+    (units : ℕ) (start : List ℕ) (log : List Event) (image : List ℕ) → IsUnits units start → IsWholeLog (length start) log
     → ((k : ℕ) → IsClean log k) → IsCrashImage start log image ↔ (image ≡ last start log)
 
 -- events that write nothing only take images away
@@ -39,7 +39,7 @@ DirtyIsTested = (log : List Event) (k : ℕ) → ((is_dirty log k ≡ true) ↔ 
 -- each image of a tear is a crash image
 abbrev pub TornIsCrash : Type 0
 TornIsCrash =
-    (tear : Tear) (units : ℕ) (start : List ℕ) (log : List Event) (image : List ℕ) → IsUnits units start → AllFit (length start) log
+    (tear : Tear) (units : ℕ) (start : List ℕ) (log : List Event) (image : List ℕ) → IsUnits units start → IsWholeLog (length start) log
     → IsTornImage tear start log image → IsCrashImage start log image
 
 -- an image that the test of dirtiness allows is a crash image, and the other way round

@@ -1,7 +1,7 @@
 -- What is seen of a device in memory: all that its answers follow from.
 use Rattle.std.specs.Prelude.{◌≡◌, ℕ, ◌+◌, ◌/◌, ◌≤◌, List, [], ◌∷◌, ◌++◌, length, map, not, Some, Bool, All}
 use Rattle.byte_maps.specs.Units.{IsUnits}
-use Rattle.block_device.specs.Image.{AllFit}
+use Rattle.block_device.specs.Image.{IsWholeLog}
 use Rattle.block_device.specs.Disk.{Disk}
 use Rattle.block_device.specs.Fails.{write_fails, flush_fails, read_fails, lag_at, counted, faults_after}
 use Rattle.block_device.specs.Pending.{flight, AreOpen, AnswersMatch, IsPatient, WasTaken, NoneWasReady}
@@ -84,7 +84,7 @@ after_read d = record d { reads = counted d.reads; faults = faults_after d.fault
 pub record IsMemoryDisk (d : MemoryDisk) : Type 0 where
   pub units : d.units ≤ 1048576
   pub size : IsUnits d.units d.start
-  pub fits : AllFit (length d.start) d.log
+  pub fits : IsWholeLog (length d.start) d.log
   pub answers : AnswersMatch d.log d.pending
   pub in_flight : AreOpen (length d.log) d.pending
   pub lags : All (λ lag. lag ≤ 63) d.lags

@@ -2,7 +2,7 @@
 ghost use Rattle.std.specs.Prelude.{◌≡◌, ◌↔◌, ◌+◌, ◌-◌, ◌*◌, ◌<◌, ◌≤◌, ◌/◌, ℕ, true, false, length, IsTrue, IfOk, Contains, replicate};
 ghost use Rattle.byte_maps.specs.Units.{unit_at, overlaid, IsUnits};
 ghost use Rattle.block_device.specs.Log.{IsStable, IsCrashImage};
-ghost use Rattle.block_device.specs.Image.{AllFit, IsTornImage, noise};
+ghost use Rattle.block_device.specs.Image.{IsWholeLog, IsTornImage, noise};
 ghost use Rattle.block_device.specs.Laying.{IsPut, IsLastGoodFlush, is_laid, mark};
 ghost use Rattle.block_device.specs.declared.event.Event.TheVariants.{Write, Flush, Done};
 
@@ -153,7 +153,7 @@ pub fn image_of(
     tear: Tear,
 ) -> Result<Vec<u8>, AllocError>
     requires whole { (units : ℕ) × IsUnits units start.now }
-    requires fits { AllFit (length start.now) log.now }
+    requires fits { IsWholeLog (length start.now) log.now }
     ensures torn { IfOk result (λ image. IsTornImage tear start.now log.now image.items) }
     ensures crash { IfOk result (λ image. IsCrashImage start.now log.now image.items) }
 {

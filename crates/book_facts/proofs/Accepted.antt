@@ -1,7 +1,7 @@
 -- How the book goes on at a submission or a read: an entry more, and where it is an accepted transaction a context more.
 use Rattle.std.proofs.Common.{◌≡◌, inl, inr, ℕ, List, [], ◌∷◌, ◌++◌, length, None, Ok}
 use Rattle.std.proofs.Common.{Err, refl, sym, ap, subst, ◌∙◌, append_assoc, arith}
-use Rattle.run_facts.proofs.Common.{AllByRecursion, Disk, Answer, Command, Entry, Objects, Change, replay, accepted_change, accepted, rows_after, width_of, Plan, Context}
+use Rattle.run_facts.proofs.Common.{AllByRecursion, Disk, Answer, Command, Read, Entry, Objects, Change, replay, accepted_change, accepted, rows_after, width_of, Plan, Context}
 use Rattle.std.specs.Prelude.{IsOk, Result}
 use Rattle.object_model.specs.declared.command.Answer.TheVariants as answer
 use Rattle.object_model.specs.declared.command.Command.TheVariants as ask
@@ -9,7 +9,7 @@ use Rattle.object_model.specs.declared.op.Refusal.{Refusal}
 use Rattle.object_model.specs.Prelude.{ok_or, transaction_effect}
 use Rattle.object_model.proofs.Replays.{replay-append}
 use Rattle.store_image.specs.Prelude.{IsShape}
-use Rattle.read_facts.specs.Prelude.{IsAnsweredAlike, IsNotRefused, HasReadNames, IsHeldAt}
+use Rattle.read_facts.specs.Prelude.{IsAnsweredAlike, IsNotRefused, IsHeldAt}
 use Rattle.read_facts.proofs.Plain.{plain_answer}
 use Rattle.store_steps.specs.Prelude.{State, context_of, entered, noted, accepted_with, IsCause, AnswersRead, memory_of, Intent, intent_of, intents, book_part}
 use Rattle.run_facts.proofs.Prelude.{intents_both, all_join, all_right}
@@ -148,15 +148,10 @@ module _ (opening : Objects) (s : State) (d : Disk) (client line : ℕ) (change 
 
 -- ---- a read is answered
 
--- its entry accepts nothing
-pub read_accepts_none : (command : Command) (a : Answer) → HasReadNames command → accepted_change command a ≡ None
-read_accepts_none (ask.Change change) a names = absurd names
-read_accepts_none command a names = refl
-
-pub book_answers : (opening : Objects) (s : State) (d : Disk) (client line : ℕ) (command : Command) (a : Answer) (s' : State) → KnownOfBook opening s
-    → AnswersRead client line command a s d s' → KnownOfBook opening s'
-book_answers opening s d client line command a s' book is =
+pub book_answers : (opening : Objects) (s : State) (d : Disk) (client line : ℕ) (read : Read) (a : Answer) (s' : State) → KnownOfBook opening s
+    → AnswersRead client line read a s d s' → KnownOfBook opening s'
+book_answers opening s d client line read a s' book is =
     subst (KnownOfBook opening) (sym is.after)
-    (book_enters opening s client line command a (read_accepts_none command a is.names) book
-    (plain_answer (width_of s.log.sup) s.submitted (replay opening (accepted s.book.entries)) book.shape (memory_of s) (IsHeldAt d) command a
+    (book_enters opening s client line (ask.Read read) a refl book
+    (plain_answer (width_of s.log.sup) s.submitted (replay opening (accepted s.book.entries)) book.shape (memory_of s) (IsHeldAt d) read a
     is.names is.given))

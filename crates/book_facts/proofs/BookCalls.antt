@@ -14,7 +14,7 @@ use Rattle.book_facts.specs.Prelude.{KnownOfBook, IsInOrder}
 use Rattle.book_facts.proofs.Books.{KeepBook, batch_of, book_stays, book_takes, book_commits, book_finishes, known_legal}
 use Rattle.book_facts.proofs.Order.{order_stays, order_takes, order_commits, order_finishes, order_accepts, order_enters}
 use Rattle.book_facts.proofs.KnownPlans.{known_plan}
-use Rattle.book_facts.proofs.Accepted.{book_accepts, book_notes, book_answers, cause_refuses, read_accepts_none}
+use Rattle.book_facts.proofs.Accepted.{book_accepts, book_notes, book_answers, cause_refuses}
 
 -- ---- calls that leave rows and book
 
@@ -102,7 +102,7 @@ module _ (K : State → Type 0) (fact : IsBookFact K) where
 book_replies : (opening : Objects) (s : State) (d : Disk) (s' : State) → Replies s d s' → KnownOfBook opening s → KnownOfBook opening s'
 book_replies opening s d s' (refuses client line change a is) known =
     subst (KnownOfBook opening) (sym is.after) (book_notes opening s d client line change known a is.cause)
-book_replies opening s d s' (reads client line command a is) known = book_answers opening s d client line command a s' known is
+book_replies opening s d s' (reads client line read a is) known = book_answers opening s d client line read a s' known is
 
 book_fact : (opening : Objects) → IsBookFact (KnownOfBook opening)
 book_fact opening = record {
@@ -132,8 +132,7 @@ legal_run opening calls s s' d d' plans kept known run = known_legal opening s' 
 order_replies : (s : State) (d : Disk) (s' : State) → Replies s d s' → IsInOrder s → IsInOrder s'
 order_replies s d s' (refuses client line change a is) known = subst IsInOrder (sym is.after)
     (order_enters s client line (ask.Change change) a (cause_refuses change s d a is.cause) known)
-order_replies s d s' (reads client line command a is) known = subst IsInOrder (sym is.after)
-    (order_enters s client line command a (read_accepts_none command a is.names) known)
+order_replies s d s' (reads client line read a is) known = subst IsInOrder (sym is.after) (order_enters s client line (ask.Read read) a refl known)
 
 order_fact : IsBookFact IsInOrder
 order_fact = record {

@@ -1,15 +1,16 @@
 -- Want of space comes only where a run's commands ask for more units than were free when it began.
 use Rattle.std.proofs.Common.{◌≡◌, inl, inr, ℕ, ◌+◌, ◌<◌, ◌≤◌, Bool, true, false, List, [], ◌∷◌, ◌++◌}
 use Rattle.std.proofs.Common.{refl, sym, ap, subst, ◌∙◌, arith}
-use Rattle.run_facts.proofs.Common.{Disk, Entry, Answer, Command, Change, width_of, PlansKeep}
+use Rattle.run_facts.proofs.Common.{Disk, Entry, Answer, Command, Read, Change, width_of, PlansKeep}
 use Rattle.std.specs.Prelude.{◌||◌}
 use Rattle.object_model.specs.declared.command.Answer.TheVariants as answer
 use Rattle.object_model.specs.declared.command.Command.TheVariants as ask
-use Rattle.read_facts.specs.Prelude.{IsHeldAt, HasReadNames, IsAnswerOf}
+use Rattle.read_facts.specs.Prelude.{IsHeldAt, IsAnswerOf}
+use Rattle.read_facts.proofs.Plain.{given_by_read}
 use Rattle.plan_drafts.specs.Prelude.{most_units, AsksAreFew}
 use Rattle.store_steps.specs.Prelude.{Call, submitting, reading, stepping, Calls, IsRun, State, free_count, IsCause, memory_of}
 use Rattle.run_facts.specs.Prelude.{IsKept}
-use Rattle.book_facts.specs.Prelude.{taken_by, units_asked, demanded_by, is_no_space, any_no_space}
+use Rattle.book_facts.specs.Prelude.{units_taken_at_most, units_asked, demanded_by, is_no_space, any_no_space}
 use Rattle.run_facts.proofs.Prelude.{kept_call}
 use Rattle.book_facts.proofs.Rooms.{KeepsSpace, call_space, taken_push, step_room}
 
@@ -24,11 +25,11 @@ no_space_push [] e is = ap (λ (b : Bool). b || false) is
 no_space_push (x ∷ es) e is = ap (λ (b : Bool). is_no_space x.answer || b) (no_space_push es e is)
 
 -- an entry takes no more than it asks for
-entry_asks : (e : Entry) → taken_by (e ∷ []) ≤ units_asked e.command
+entry_asks : (e : Entry) → units_taken_at_most (e ∷ []) ≤ units_asked e.command
 entry_asks e = by e.command e.answer
   where
     by : (command : Command) (a : Answer)
-        → taken_by (record { client = e.client; line = e.line; command = command; answer = a; acks = e.acks } ∷ []) ≤ units_asked command
+        → units_taken_at_most (record { client = e.client; line = e.line; command = command; answer = a; acks = e.acks } ∷ []) ≤ units_asked command
     by (ask.Change change) answer.Accepted = omega arith
     by command a = omega arith
 
@@ -36,8 +37,8 @@ entry_asks e = by e.command e.answer
 
 -- so many units were free when the run began
 pub record IsWithin (free : ℕ) (s : State) : Type 0 where
-  pub taken : free ≤ free_count s.space + taken_by s.book.entries
-  pub asked : taken_by s.book.entries ≤ demanded_by s.book.entries
+  pub taken : free ≤ free_count s.space + units_taken_at_most s.book.entries
+  pub asked : units_taken_at_most s.book.entries ≤ demanded_by s.book.entries
   pub want : any_no_space s.book.entries ≡ true → free < demanded_by s.book.entries
 
 module _ (free : ℕ) (s s' : State) (within : IsWithin free s) (keeps : KeepsSpace s s') where
@@ -46,7 +47,7 @@ module _ (free : ℕ) (s s' : State) (within : IsWithin free s) (keeps : KeepsSp
       → (is_no_space e.answer ≡ true → free_count s.space < units_asked e.command) → IsWithin free s'
   entry_within e entries wants = record {
     taken = omega (arith, within.taken, keeps);
-    asked = omega (arith, within.asked, ap taken_by entries, ap demanded_by entries, taken_push s.book.entries e, demanded_push s.book.entries e, entry_asks e);
+    asked = omega (arith, within.asked, ap units_taken_at_most entries, ap demanded_by entries, taken_push s.book.entries e, demanded_push s.book.entries e, entry_asks e);
     want = by (is_no_space e.answer) refl;
   }
     where
@@ -60,7 +61,7 @@ module _ (free : ℕ) (s s' : State) (within : IsWithin free s) (keeps : KeepsSp
   same_within : s'.book.entries ≡ s.book.entries → IsWithin free s'
   same_within entries = record {
     taken = omega (arith, within.taken, keeps);
-    asked = omega (arith, within.asked, ap taken_by entries, ap demanded_by entries);
+    asked = omega (arith, within.asked, ap units_taken_at_most entries, ap demanded_by entries);
     want = λ any. let before = within.want (sym (ap any_no_space entries) ∙ any) in omega (arith, before, ap demanded_by entries);
   }
 
@@ -75,18 +76,11 @@ cause_wants asks change s d (answer.MetaFull need room) cause is = absurd cc
 cause_wants asks change s d a cause is = absurd cause
 
 -- a read isn't answered so
-read_wants : (d : Disk) (s : State) (command : Command) (a : Answer) → HasReadNames command
-    → IsAnswerOf (width_of s.log.sup) (memory_of s) (IsHeldAt d) s.submitted command a → is_no_space a ≡ true
-    → free_count s.space < units_asked command
-read_wants d s (ask.Read c o off len) (answer.NoSpace need free) names given is = absurd given.1
-read_wants d s (ask.Sum c o) (answer.NoSpace need free) names given is = absurd given.1
-read_wants d s (ask.Stat c o) (answer.NoSpace need free) names given is = absurd given.1
-read_wants d s (ask.GetAttr c o name) (answer.NoSpace need free) names given is = absurd given.1
-read_wants d s (ask.OmapGet c o key) (answer.NoSpace need free) names given is = absurd given.1
-read_wants d s (ask.OmapHeader c o) (answer.NoSpace need free) names given is = absurd given.1
-read_wants d s (ask.List c) (answer.NoSpace need free) names given is = absurd given.1
-read_wants d s command (answer.NoSpace need free) names given is = absurd names
-read_wants d s command a names given is = absurd cc
+read_wants : (d : Disk) (s : State) (read : Read) (a : Answer) → IsAnswerOf (width_of s.log.sup) (memory_of s) (IsHeldAt d) s.submitted read a
+    → is_no_space a ≡ true → ⊥
+read_wants d s read (answer.NoSpace need free) given is =
+    given_by_read (width_of s.log.sup) (memory_of s) (IsHeldAt d) s.submitted read (answer.NoSpace need free) given
+read_wants d s read a given is = cc
 
 call_within : (free : ℕ) (call : Call) (s s' : State) (d d' : Disk) → PlansKeep → AsksAreFew → IsKept s d → Calls call s d s' d' → IsWithin free s
     → IsWithin free s'
@@ -101,12 +95,12 @@ call_within free (submitting client line change) s s' d d' plans asks kept made 
           (ap (λ (z : State). z.book.entries) refuses.1.after) (cause_wants asks change s d refuses.0 refuses.1.cause)
       | inr (inr away) ↦ same_within free s s' within keeps (ap (λ (z : State). z.book.entries) away.same)
     ]
-call_within free (reading client line command) s s' d d' plans asks kept made within =
-    let keeps = call_space (reading client line command) s s' d d' plans kept made in
-    elim made.1 [
+call_within free (reading client line read) s s' d d' plans asks kept made within =
+    let keeps = call_space (reading client line read) s s' d d' plans kept made in
+    elim made.0 [
       | inl is ↦ entry_within free s s' within keeps
-          (record { client = client; line = line; command = command; answer = is.0; acks = s.acked })
-          (ap (λ (z : State). z.book.entries) is.1.after) (read_wants d s command is.0 is.1.names is.1.given)
+          (record { client = client; line = line; command = ask.Read read; answer = is.0; acks = s.acked })
+          (ap (λ (z : State). z.book.entries) is.1.after) (λ wants. absurd (read_wants d s read is.0 is.1.given wants))
       | inr away ↦ same_within free s s' within keeps (ap (λ (z : State). z.book.entries) away.same)
     ]
 call_within free (stepping step) s s' d d' plans asks kept made within =
@@ -127,7 +121,7 @@ run_within free (call ∷ calls) s s' d d' plans asks kept run within =
 none_within : (s : State) → s.book.entries ≡ [] → IsWithin (free_count s.space) s
 none_within s empty = record {
   taken = omega arith;
-  asked = omega (arith, ap taken_by empty, ap demanded_by empty);
+  asked = omega (arith, ap units_taken_at_most empty, ap demanded_by empty);
   want = λ any. let none : any_no_space s.book.entries ≡ false = ap any_no_space empty in absurd cc;
 }
 

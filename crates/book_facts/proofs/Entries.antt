@@ -4,7 +4,7 @@ use Rattle.std.proofs.Common.{Some, None, refl, sym, ap, subst, ◌∙◌, appen
 use Rattle.run_facts.proofs.Common.{AllByRecursion, cons_option, Entry, Commit, Objects, Change, replay, accepted_change, accepted, change_at, committed, is_on, committed_places}
 use Rattle.std.specs.Prelude.{slice_get, option_and_then, is_some, IsSome}
 use Rattle.std.proofs.lemmas.List.Elements.{filter_map-append}
-use Rattle.object_model.specs.Prelude.{IsAnswered, AnswersFrom, places_from, places_of, AreCountsWithin}
+use Rattle.object_model.specs.Prelude.{IsAnswered, AnswersFrom, places_from, entry_places, AreCountsWithin}
 use Rattle.read_facts.specs.Prelude.{IsAnsweredAlike, AnswersAlikeFrom}
 
 -- ---- answers
@@ -163,5 +163,5 @@ places_from_push coll i (x ∷ es) e =
     (places_from_push coll (i + 1) es e ∙ ap (λ (n : ℕ). places_from coll (i + 1) es ++ last n) behind)
 
 pub places_push : (coll : List ℕ) (es : List Entry) (e : Entry)
-    → places_of coll (es ++ e ∷ []) ≡ places_of coll es ++ place_if (is_on coll (own_change e)) (length es)
-places_push coll es e = places_from_push coll 0 es e ∙ ap (λ (n : ℕ). places_of coll es ++ place_if (is_on coll (own_change e)) n) (omega arith)
+    → entry_places coll (es ++ e ∷ []) ≡ entry_places coll es ++ place_if (is_on coll (own_change e)) (length es)
+places_push coll es e = places_from_push coll 0 es e ∙ ap (λ (n : ℕ). entry_places coll es ++ place_if (is_on coll (own_change e)) n) (omega arith)

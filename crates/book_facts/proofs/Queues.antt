@@ -10,7 +10,7 @@ use Rattle.std.proofs.lemmas.Map.Keys.{IsDistinct-push, IsDistinct-IsPermutation
 use Rattle.std.specs.List.Sorted.{IsPermutation}
 use Rattle.std.proofs.lemmas.List.Sorted.{IsPermutation-append_right, IsPermutation-middle}
 use Rattle.object_model.specs.declared.book.Book.{Book}
-use Rattle.object_model.specs.Prelude.{places_of, IsPrefixOf}
+use Rattle.object_model.specs.Prelude.{entry_places, IsPrefixOf}
 use Rattle.store_steps.specs.Prelude.{Intent, names_in, is_in}
 use Rattle.book_facts.specs.Prelude.{places, commit_places, intents_on, IsOfEntry, AreQueued}
 use Rattle.book_facts.proofs.Entries.{own_change, change_below, change_push, places_kept, place_if, places_push}
@@ -59,8 +59,8 @@ module _ (es : List Entry) (e : Entry) (commits : List Commit) (waiting : List I
   pub queued_noted : own_change e ≡ None → AreQueued (record { entries = es ++ e ∷ []; commits = commits }) waiting
   queued_noted is = record {
     once = queued.once;
-    in_order = λ coll. places_push coll es e ∙ ap (λ (o : Option Change). places_of coll es ++ place_if (is_on coll o) (length es)) is
-        ∙ append-nil (places_of coll es) ∙ queued.in_order coll
+    in_order = λ coll. places_push coll es e ∙ ap (λ (o : Option Change). entry_places coll es ++ place_if (is_on coll o) (length es)) is
+        ∙ append-nil (entry_places coll es) ∙ queued.in_order coll
         ∙ ap (λ (l : List ℕ). l ++ places (intents_on coll waiting)) (sym (places_kept coll es e commits of_accepted));
   }
 
@@ -83,10 +83,10 @@ module _ (es : List Entry) (e : Entry) (commits : List Commit) (waiting : List I
           (IsDistinct-push nat_eq_equiv (commit_places commits ++ places waiting) (length es) queued.once
           (none_above (length es) (commit_places commits ++ places waiting) apart))
 
-      in_order : (coll : List ℕ) → places_of coll (es ++ e ∷ []) ≡ committed_places coll (es ++ e ∷ []) commits ++ places (intents_on coll (waiting ++ x ∷ []))
+      in_order : (coll : List ℕ) → entry_places coll (es ++ e ∷ []) ≡ committed_places coll (es ++ e ∷ []) commits ++ places (intents_on coll (waiting ++ x ∷ []))
       in_order coll =
           places_push coll es e
-          ∙ ap (λ (o : Option Change). places_of coll es ++ place_if (is_on coll o) (length es)) is
+          ∙ ap (λ (o : Option Change). entry_places coll es ++ place_if (is_on coll o) (length es)) is
           ∙ ap (λ (l : List ℕ). l ++ place_if (is_named coll (names_of change)) (length es)) (queued.in_order coll)
           ∙ append_assoc (committed_places coll es commits) (places (intents_on coll waiting)) (place_if (is_named coll (names_of change)) (length es))
           ∙ ap (λ (names : List (List ℕ)). committed_places coll es commits ++ (places (intents_on coll waiting) ++ place_if (is_named coll names) (length es)))
@@ -130,7 +130,7 @@ queued_taken es commits c front x back same is first queued = record { once = on
     on_it : (coll : List ℕ) → is_on coll (change_at es x.place) ≡ is_in coll x
     on_it coll = ap (is_on coll) is.accepted ∙ ap (is_named coll) is.same_names
 
-    in_order : (coll : List ℕ) → places_of coll es ≡ committed_places coll es (commits ++ c ∷ []) ++ places (intents_on coll (front ++ back))
+    in_order : (coll : List ℕ) → entry_places coll es ≡ committed_places coll es (commits ++ c ∷ []) ++ places (intents_on coll (front ++ back))
     in_order coll =
         queued.in_order coll
         ∙ ap (λ (l : List ℕ). committed_places coll es commits ++ l) (queued_on coll front x back (first coll)
@@ -158,5 +158,5 @@ pub once_committed : (book : Book) (waiting : List Intent) → AreQueued book wa
 once_committed book waiting queued = distinct_front (commit_places book.commits) (places waiting) queued.once
 
 pub committed_in_order : (book : Book) (waiting : List Intent) → AreQueued book waiting → (coll : List ℕ)
-    → IsPrefixOf (committed_places coll book.entries book.commits) (places_of coll book.entries)
+    → IsPrefixOf (committed_places coll book.entries book.commits) (entry_places coll book.entries)
 committed_in_order book waiting queued coll = (places (intents_on coll waiting), queued.in_order coll)

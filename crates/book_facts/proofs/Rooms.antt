@@ -1,7 +1,7 @@
 -- Units and room go to accepted transactions alone: no other call takes any.
 use Rattle.std.proofs.Common.{◌≡◌, inl, inr, ℕ, ◌+◌, ◌-◌, ◌<◌, ◌≤◌, true, List, [], ◌∷◌, ◌++◌, length}
 use Rattle.std.proofs.Common.{None, Contains, refl, sym, ap, subst, ◌∙◌, arith}
-use Rattle.run_facts.proofs.Common.{Disk, IsSound, Entry, Answer, Command, Change, accepted_change, accepted, unit_count, FreshUnit, Step, IsKnown, PlansKeep, IsWithin, is_free, free_units}
+use Rattle.run_facts.proofs.Common.{Disk, IsSound, Entry, Answer, Command, Read, Change, accepted_change, accepted, unit_count, FreshUnit, Step, IsKnown, PlansKeep, IsWithin, is_free, free_units}
 use Rattle.std.proofs.lemmas.List.{length-map}
 use Rattle.object_model.specs.declared.command.Answer.TheVariants as answer
 use Rattle.object_model.specs.declared.command.Command.TheVariants as ask
@@ -14,8 +14,8 @@ use Rattle.space_facts.proofs.Prelude.{rows_units-after, check_units_are}
 use Rattle.run_facts.specs.Prelude.{IsKept, HasRoom}
 use Rattle.store_steps.specs.RowsGo as rows
 use Rattle.run_facts.proofs.Prelude.{footprint_of, IsNoJoin, none_joins, needs_join, StepOutcome, has_stepped, has_waited, has_gone_down, kept_leaves, kept_call}
-use Rattle.book_facts.specs.Prelude.{units_taken_by, taken_by, need_if_accepted, needs_in}
-use Rattle.book_facts.proofs.Accepted.{cause_refuses, read_accepts_none}
+use Rattle.book_facts.specs.Prelude.{units_taken_by, units_taken_at_most, need_if_accepted, needs_in}
+use Rattle.book_facts.proofs.Accepted.{cause_refuses}
 use Rattle.book_facts.proofs.Entries.{own_change, accepted_push, none_accepted}
 use Rattle.book_facts.proofs.FreeCounts.{count_taken, count_given}
 use Rattle.book_facts.proofs.Commits.{all_then}
@@ -95,22 +95,22 @@ taken_append : (xs ys : List Change) → units_taken_by (xs ++ ys) ≡ units_tak
 taken_append [] ys = omega arith
 taken_append (x ∷ xs) ys = let more = taken_append xs ys in omega (arith, more)
 
-pub taken_push : (es : List Entry) (e : Entry) → taken_by (es ++ e ∷ []) ≡ taken_by es + taken_by (e ∷ [])
+pub taken_push : (es : List Entry) (e : Entry) → units_taken_at_most (es ++ e ∷ []) ≡ units_taken_at_most es + units_taken_at_most (e ∷ [])
 taken_push es e = ap units_taken_by (accepted_push es e) ∙ taken_append (accepted es) (accepted (e ∷ []))
 
 -- one that isn't accepted takes nothing
-none_taken : (es : List Entry) (e : Entry) → own_change e ≡ None → taken_by (es ++ e ∷ []) ≡ taken_by es
+none_taken : (es : List Entry) (e : Entry) → own_change e ≡ None → units_taken_at_most (es ++ e ∷ []) ≡ units_taken_at_most es
 none_taken es e is = ap units_taken_by (none_accepted es e is)
 
 -- ---- each call
 
 -- what is free, and what the book's accepted transactions took, is no less than before
 abbrev pub KeepsSpace : State → State → Type 0
-KeepsSpace s s' = free_count s.space + taken_by s.book.entries ≤ free_count s'.space + taken_by s'.book.entries
+KeepsSpace s s' = free_count s.space + units_taken_at_most s.book.entries ≤ free_count s'.space + units_taken_at_most s'.book.entries
 
 step_space : (s s' : State) → LeavesRoom s s' → KeepsSpace s s'
 step_space s s' leaves =
-    let same = ap taken_by leaves.entries in
+    let same = ap units_taken_at_most leaves.entries in
     let more = leaves.space in
     omega (arith, same, more)
 
@@ -134,7 +134,7 @@ module _ (s : State) (d : Disk) (client line : ℕ) (change : Change) (s' : Stat
       let count : length units ≤ most_units change.ops =
       let long = length-map does.plan.fresh (λ (f : FreshUnit). f.unit) in omega (arith, long, is.takes.within) in
       let more = taken_push s.book.entries entry in
-      let here : taken_by (entry ∷ []) ≡ most_units change.ops + 0 = refl in
+      let here : units_taken_at_most (entry ∷ []) ≡ most_units change.ops + 0 = refl in
       omega (arith, free, count, more, here))
 
   refused_space : (a : Answer) → Refuses client line change a s d s' → KeepsSpace s s'
@@ -147,8 +147,8 @@ call_space (submitting client line change) s s' d d' plans kept made = elim made
   | inr (inl refuses) ↦ refused_space s d client line change s' plans kept made.0 refuses.0 refuses.1
   | inr (inr away) ↦ subst (KeepsSpace s) (sym away.same) (omega arith)
 ]
-call_space (reading client line command) s s' d d' plans kept made = elim made.1 [
-  | inl is ↦ subst (KeepsSpace s) (sym is.1.after) (entered_space s client line command is.0 (read_accepts_none command is.0 is.1.names))
+call_space (reading client line read) s s' d d' plans kept made = elim made.0 [
+  | inl is ↦ subst (KeepsSpace s) (sym is.1.after) (entered_space s client line (ask.Read read) is.0 refl)
   | inr away ↦ subst (KeepsSpace s) (sym away.same) (omega arith)
 ]
 call_space (stepping step) s s' d d' plans kept made = step_space s s' (step_room s d s' d' step kept made.0 made.1)
@@ -166,10 +166,10 @@ run_space (call ∷ calls) s s' d d' plans kept run =
 
 -- want of space comes where more is asked for than was free at the mount
 pub want_of_space : (calls : List Call) (s s' t : State) (d d' : Disk) (client line need free : ℕ) (change : Change) → PlansKeep → IsKept s d
-    → s.book.entries ≡ [] → IsRun s d calls s' d' → Refuses client line change (answer.NoSpace need free) s' d' t → free_count s.space < taken_by s'.book.entries + need
+    → s.book.entries ≡ [] → IsRun s d calls s' d' → Refuses client line change (answer.NoSpace need free) s' d' t → free_count s.space < units_taken_at_most s'.book.entries + need
 want_of_space calls s s' t d d' client line need free change plans kept empty run refuses =
     let kept_free = run_space calls s s' d d' plans kept run in
-    let none = ap taken_by empty in
+    let none = ap units_taken_at_most empty in
     let few = refuses.cause.2 in
     let less = refuses.cause.3 in
     omega (arith, kept_free, none, few, less)
@@ -198,9 +198,9 @@ submitted_room s s' d client line change kept known (inr (inl refuses)) =
 submitted_room s s' d client line change kept known (inr (inr away)) = let same = ap (λ (t : State). room_of t.log) away.same in omega (arith, same)
 
 -- a read takes none
-read_room : (s s' : State) (d : Disk) (client line : ℕ) (command : Command) → Reads client line command s d s' → room_of s.log ≤ room_of s'.log
-read_room s s' d client line command (inl (a, is)) = let same = ap (λ (t : State). room_of t.log) is.after in omega (arith, same)
-read_room s s' d client line command (inr away) = let same = ap (λ (t : State). room_of t.log) away.same in omega (arith, same)
+read_room : (s s' : State) (d : Disk) (client line : ℕ) (read : Read) → Reads client line read s d s' → room_of s.log ≤ room_of s'.log
+read_room s s' d client line read (inl (a, is)) = let same = ap (λ (t : State). room_of t.log) is.after in omega (arith, same)
+read_room s s' d client line read (inr away) = let same = ap (λ (t : State). room_of t.log) away.same in omega (arith, same)
 
 pub run_room : (calls : List Call) (s s' : State) (d d' : Disk) → PlansKeep → IsKept s d → (run : IsRun s d calls s' d')
     → room_of s.log ≤ room_of s'.log + needs_in calls s d s' d' run
@@ -212,12 +212,12 @@ run_room (submitting client line change ∷ calls) s s' d d' plans kept run =
     let first = submitted_room s t d client line change kept made.0 made.1 in
     let rest = run_room calls t s' e d' plans (kept_call (submitting client line change) s t d e plans kept made run.1.1.1.0) run.1.1.1.1 in
     omega (arith, first, rest)
-run_room (reading client line command ∷ calls) s s' d d' plans kept run =
+run_room (reading client line read ∷ calls) s s' d d' plans kept run =
     let t : State = run.0 in
     let e : Disk = run.1.0 in
     let made = run.1.1.0 in
-    let first = read_room s t d client line command made.1 in
-    let rest = run_room calls t s' e d' plans (kept_call (reading client line command) s t d e plans kept made run.1.1.1.0) run.1.1.1.1 in
+    let first = read_room s t d client line read made.0 in
+    let rest = run_room calls t s' e d' plans (kept_call (reading client line read) s t d e plans kept made run.1.1.1.0) run.1.1.1.1 in
     omega (arith, first, rest)
 run_room (stepping step ∷ calls) s s' d d' plans kept run =
     let t : State = run.0 in

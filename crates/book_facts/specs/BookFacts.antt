@@ -1,7 +1,7 @@
 -- What is known of the book from call to call, whatever the device is.
 use Rattle.std.specs.Prelude.{◌≡◌, ℕ, ◌≤◌, nat_eq, List, ◌++◌, map, drop, Some, IsSome, IfSome}
 use Rattle.std.specs.List.{AllByRecursion, IsDistinct}
-use Rattle.object_model.specs.Prelude.{Objects, Change, replay, names_of, accepted, change_at, AreAckedFrom, AreCountsWithin, acked_count, places_of, committed_places}
+use Rattle.object_model.specs.Prelude.{Objects, Change, replay, names_of, accepted, change_at, AreAckedFrom, AreCountsWithin, acked_count, entry_places, committed_places}
 use Rattle.object_model.specs.declared.book.Book.{Book}
 use Rattle.object_model.specs.declared.book.Commit.{Commit}
 use Rattle.object_model.specs.declared.book.Entry.{Entry}
@@ -39,7 +39,7 @@ pub record AreCommits (book : Book) (acked events : ℕ) : Type 0 where
 -- those that wait, in order.
 pub record AreQueued (book : Book) (waiting : List Intent) : Type 0 where
   pub once : IsDistinct nat_eq (commit_places book.commits ++ places waiting)
-  pub in_order : (coll : List ℕ) → places_of coll book.entries
+  pub in_order : (coll : List ℕ) → entry_places coll book.entries
       ≡ committed_places coll book.entries book.commits ++ places (intents_on coll waiting)
 
 -- Each entry has its answer, but for the bytes that reads gave, and the commits are those of the queues of collections, the last ones those of

@@ -17,13 +17,13 @@ units_taken_by [] = 0
 units_taken_by (change ∷ changes) = most_units change.ops + units_taken_by changes
 
 -- those that the accepted transactions of entries took at most
-abbrev pub taken_by : List Entry → ℕ
-taken_by entries = units_taken_by (accepted entries)
+abbrev pub units_taken_at_most : List Entry → ℕ
+units_taken_at_most entries = units_taken_by (accepted entries)
 
 -- the units that a command asks for at most, whatever the rows are
 abbrev pub units_asked : Command → ℕ
 units_asked (ask.Change change) = most_units change.ops
-units_asked other = 0
+units_asked (ask.Read read) = 0
 
 -- those that commands ask for together, also where they are refused
 abbrev pub demand_of : List Command → ℕ
@@ -53,5 +53,5 @@ abbrev pub needs_in : (calls : List Call) (s : State) (d : Disk) (s' : State) (d
 needs_in [] s d s' d' run = 0
 needs_in (submitting client line change ∷ calls) s d s' d' run =
     need_if_accepted client line change s d run.0 run.1.1.0.1 + needs_in calls run.0 run.1.0 s' d' run.1.1.1.1
-needs_in (reading client line command ∷ calls) s d s' d' run = needs_in calls run.0 run.1.0 s' d' run.1.1.1.1
+needs_in (reading client line read ∷ calls) s d s' d' run = needs_in calls run.0 run.1.0 s' d' run.1.1.1.1
 needs_in (stepping step ∷ calls) s d s' d' run = needs_in calls run.0 run.1.0 s' d' run.1.1.1.1

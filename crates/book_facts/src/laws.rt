@@ -13,7 +13,7 @@ ghost use Rattle.store_steps.specs.declared.step.Step.{Step};
 ghost use Rattle.store_steps.specs.Prelude.{State, colls_of, Found, opened, is_ready, need_of, free_count, Accepts, Refuses, DoesOrFails, Call, Calls, IsRun, room_of};
 ghost use Rattle.run_facts.specs.Prelude.{IsKept};
 ghost use Rattle.book_facts.specs.BookFacts.{KnownOfBook, IsInOrder};
-ghost use Rattle.book_facts.specs.Rooms.{taken_by, needs_in, demanded_by, any_no_space};
+ghost use Rattle.book_facts.specs.Rooms.{units_taken_at_most, needs_in, demanded_by, any_no_space};
 
 /// So far each context has one name, that of its collection.
 pub fn a_context_has_one_name()
@@ -59,10 +59,10 @@ pub fn a_run_makes_a_legal_book()
 /// most. So want of space comes only where that and what the refused one needs are together more than were free at the mount.
 pub fn space_suffices()
     ensures kept { (calls : List Call) (s s' : State) (d d' : Disk) → PlansKeep → IsKept s d → IsRun s d calls s' d'
-        → free_count s.space + taken_by s.book.entries ≤ free_count s'.space + taken_by s'.book.entries }
+        → free_count s.space + units_taken_at_most s.book.entries ≤ free_count s'.space + units_taken_at_most s'.book.entries }
     ensures refused { (calls : List Call) (s s' t : State) (d d' : Disk) (client line need free : ℕ) (change : Change) → PlansKeep → IsKept s d
         → s.book.entries ≡ [] → IsRun s d calls s' d' → Refuses client line change (answer.NoSpace need free) s' d' t
-        → free_count s.space < taken_by s'.book.entries + need }
+        → free_count s.space < units_taken_at_most s'.book.entries + need }
 {}
 
 /// In a run whose commands together ask for at most as many units as were free when it began, no transaction is refused for want of

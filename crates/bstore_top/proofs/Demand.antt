@@ -8,7 +8,7 @@ use Rattle.block_device.specs.Prelude.{Disk}
 use Rattle.object_model.specs.declared.book.Book.{Book}
 use Rattle.object_model.specs.declared.book.Entry.{Entry}
 use Rattle.unit_allocator.specs.Prelude.{Space}
-use Rattle.draft_rows.proofs.PlanLaws.{plans_keep, asks_are_few}
+use Rattle.plan_proofs.proofs.PlanLaws.{plans_keep, asks_are_few}
 use Rattle.script_text.specs.declared.line.Line.{Line}
 use Rattle.store_steps.specs.Prelude.{State, Found, free_count, Call, IsRun}
 use Rattle.run_facts.specs.Prelude.{IsKept}

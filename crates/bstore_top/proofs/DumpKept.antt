@@ -25,13 +25,14 @@ use Rattle.mount_replay.specs.Mounting.{IsOpenedOn, IsReapedTo}
 use Rattle.run_texts.specs.declared.work_end.WorkEnd.{WorkEnd}
 use Rattle.run_texts.specs.declared.work_end.WorkEnd.TheVariants.{Done, BadLine, NoSuper, BadRow, NotExact, WornOut}
 use Rattle.run_texts.specs.declared.work_end.WorkEnd.TheVariants.{DeviceFault, OutOfMemory, BayFault, SinkFault}
-use Rattle.bstore_top.specs.Prelude.{IsOfUp, end_of_walk, AtEnd, Walked, WalksStore, Shows, ShowsObjects, StaysDurable, empty_book, FailsToMount, HasCounted}
+use Rattle.client_runs.specs.Prelude.{empty_book}
+use Rattle.bstore_top.specs.Prelude.{IsOfUp, end_of_walk, AtEnd, Walked, WalksStore, Shows, ShowsObjects, StaysDurable, FailsToMount, HasCounted}
 use Rattle.bstore_top.proofs.RunLaws.{log_empty, clean_of_none, start_durable, no_reap}
 
 -- ---- a device on which nothing was mounted
 
 -- a device that the mount left durable is so from what it was given with
-pub stays_durable : (given disk : Disk) → IsFresh given → mounting.StaysDurable given disk → StaysDurable given empty_book disk
+pub stays_durable : (given disk : Disk) → IsFresh given → mounting.MountStaysDurable given disk → StaysDurable given empty_book disk
 stays_durable given disk fresh stays h objects told stands =
     let none : h.log ≡ [] = log_empty given h fresh told in
     let still : mounting.StandsStill h objects disk =
@@ -127,7 +128,7 @@ module _ (given : Disk) (f : Found) (space : Space) (start : Disk) (s : State) (
     later_unmounted = subst (IsLater given) (sym device_same) mounted.later
 
     -- and durable from there
-    pub durable_unmounted : IsFresh given → mounting.StaysDurable given start → StaysDurable given empty_book disk
+    pub durable_unmounted : IsFresh given → mounting.MountStaysDurable given start → StaysDurable given empty_book disk
     durable_unmounted fresh stays = subst (StaysDurable given empty_book) (sym device_same) (stays_durable given start fresh stays)
 
     -- what came of the walk

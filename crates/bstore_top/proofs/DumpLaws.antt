@@ -21,7 +21,8 @@ use Rattle.command_words.specs.declared.command_line.CommandLine.TheVariants.{Du
 use Rattle.run_texts.specs.declared.work_end.WorkEnd.{WorkEnd}
 use Rattle.run_texts.specs.declared.work_end.WorkEnd.TheVariants.{Done, BadLine, NoSuper, BadRow, NotExact, WornOut}
 use Rattle.run_texts.specs.declared.work_end.WorkEnd.TheVariants.{DeviceFault, OutOfMemory, BayFault, SinkFault}
-use Rattle.bstore_top.specs.Prelude.{Walked, DumpsOn, Shows, ShowsObjects, FailsUnopened, DumpsOpened, IsDumpDone, RanDump, Dumped, IsGoodStore, HasNoFault, IsDurableFrom, StaysDurable, EachCrashLeavesPrefix, Seen, seen, empty_book, HasCounted}
+use Rattle.client_runs.specs.Prelude.{empty_book}
+use Rattle.bstore_top.specs.Prelude.{Walked, DumpsOn, Shows, ShowsObjects, FailsUnopened, DumpsOpened, IsDumpDone, RanDump, Dumped, IsGoodStore, HasNoFault, IsDurableFrom, StaysDurable, EachCrashLeavesPrefix, Seen, seen, HasCounted}
 use Rattle.run_texts.specs.Prelude.{is_bad, has_bad_view, dump_text, dump_number, Output, TookAll, FailedToPrint, ReportsDump}
 use Rattle.bstore_top.proofs.RunLaws.{printed_well, EndsWell, ends_well}
 use Rattle.bstore_top.proofs.GoodStarts.{EndsInOrder, told_start, unmounted_ends, reported, in_order}

@@ -24,8 +24,8 @@ use Rattle.meta_rows.proofs.PartLemmas.{less}
 use Rattle.unit_fields.specs.declared.width.Width.{Width}
 use Rattle.row_format.specs.Prelude.{coll_key, onode_key}
 use Rattle.object_reader.specs.Readable.{IsNextView}
-use Rattle.object_reader.proofs.NamesOrder.{same_first}
-use Rattle.object_reader.proofs.NamesKeys.{onodes_in_order}
+use Rattle.object_rows.proofs.NamesOrder.{same_first}
+use Rattle.object_rows.proofs.NamesKeys.{onodes_in_order}
 use Rattle.read_facts.specs.Prelude.{IsHeldAt, no_memory, IsCollection, IsObject, IsNextOf, IsPast, AreNext, last_of, IsViewOf, object_names, coll_names, IsViewed, IsWhole, AreWholeButLast, WalksTo, WalksAll}
 use Rattle.read_facts.specs.declared.view.CollView.{CollView}
 use Rattle.read_facts.specs.declared.view.ObjectView.{ObjectView}

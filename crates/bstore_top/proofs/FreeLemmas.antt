@@ -5,7 +5,7 @@ use Rattle.block_device.specs.Prelude.{last, Disk, History}
 use Rattle.meta_rows.specs.Prelude.{Rows}
 use Rattle.meta_log.specs.declared.slot.Super.{Super}
 use Rattle.store_image.specs.Prelude.{IsDataUnit, IsMarked, IsBusy}
-use Rattle.log_facts.specs.Prelude.{records_units}
+use Rattle.meta_log.specs.Prelude.{records_units}
 use Rattle.log_facts.proofs.Reading.{behind_units, half_inside, slots_read, half_parts, no_record_behind, rows_read}
 use Rattle.unit_allocator.specs.Prelude.{Space, free_units, IsWithin}
 use Rattle.unit_allocator.proofs.FreeUnits.{free_units_ascend, listed_is_free, free_is_listed}

@@ -8,7 +8,8 @@ use Rattle.fsck_check.specs.Checking.{FoundAll, FailsFsck}
 use Rattle.fsck_check.specs.declared.fail.FsckFail.{FsckFail}
 use Rattle.fsck_check.specs.declared.fail.FsckFail.TheVariants as fail
 use Rattle.run_texts.specs.declared.work_end.WorkEnd.{WorkEnd}
-use Rattle.bstore_top.specs.Prelude.{end_of_fsck, LooksThrough, IsFsckDone, seen, empty_book}
+use Rattle.client_runs.specs.Prelude.{empty_book}
+use Rattle.bstore_top.specs.Prelude.{end_of_fsck, LooksThrough, IsFsckDone, seen}
 
 -- the end of a run that looked through no store
 pub looks_fail : (fail : FsckFail) (given : Disk) (before now : ℕ) → FailsFsck fail given before now → LooksThrough given before (Err (end_of_fsck fail)) now

@@ -17,7 +17,8 @@ use Rattle.script_text.specs.declared.line.Line.{Line}
 use Rattle.command_words.specs.declared.command_line.CommandLine.TheVariants.{Step}
 use Rattle.run_texts.specs.declared.work_end.WorkEnd.{WorkEnd}
 use Rattle.run_texts.specs.Prelude.{has_csum}
-use Rattle.bstore_top.specs.Prelude.{AreAckedWithin, IsDurableFrom, StaysDurable, KeepsStore, EachCrashLeavesPrefix, Seen, FailsToMount, EndsOpened, IsStepDone, empty_book, end_of_mount}
+use Rattle.client_runs.specs.Prelude.{empty_book}
+use Rattle.bstore_top.specs.Prelude.{AreAckedWithin, IsDurableFrom, StaysDurable, KeepsStore, EachCrashLeavesPrefix, Seen, FailsToMount, EndsOpened, IsStepDone, end_of_mount}
 use Rattle.bstore_top.proofs.WorkLemmas.{mount_fails}
 use Rattle.bstore_top.proofs.RunLaws.{log_empty, clean_of_none, same_start, RanKept, run_legal, run_no_csum, run_durable_to, run_finished, run_complete}
 
@@ -30,7 +31,7 @@ mount_failed why end given before now is cause = subst (λ (e : WorkEnd). FailsT
 -- ---- a device on which nothing was mounted
 
 pub failed_keeps : (given disk : Disk) (end : WorkEnd) (book : Book) (before now : ℕ) → IsFresh given → FailsToMount end given before now
-    → book ≡ empty_book → mounting.StaysDurable given disk → KeepsStore given end book disk
+    → book ≡ empty_book → mounting.MountStaysDurable given disk → KeepsStore given end book disk
 failed_keeps given disk end book before now fresh cause no_book stays = record {
   legal = λ h objects told stands. subst (IsLegal objects) (sym no_book) (IsLegal-empty objects [] [] refl refl);
   no_csum = λ h objects told stands. ap (λ (b : Book). has_csum b.entries) no_book;

@@ -4,13 +4,14 @@ use Rattle.block_device.specs.Prelude.{Disk}
 use Rattle.object_model.specs.declared.book.Entry.{Entry}
 use Rattle.object_model.specs.declared.command.Answer.{Answer}
 use Rattle.object_model.specs.declared.command.Answer.TheVariants as answer
-use Rattle.object_model.specs.declared.command.Command.{Command}
 use Rattle.object_model.specs.declared.command.Command.TheVariants as ask
+use Rattle.object_model.specs.declared.command.Read.{Read}
 use Rattle.object_model.specs.Prelude.{Change}
 use Rattle.meta_log.specs.Prelude.{width_of}
 use Rattle.meta_store.specs.Store.{room_of}
-use Rattle.draft_rows.proofs.PlanLaws.{plans_keep}
-use Rattle.read_facts.specs.Prelude.{IsHeldAt, HasReadNames, IsAnswerOf}
+use Rattle.plan_proofs.proofs.PlanLaws.{plans_keep}
+use Rattle.read_facts.specs.Prelude.{IsHeldAt, IsAnswerOf}
+use Rattle.read_facts.proofs.Plain.{IsOfRead, given_by_read}
 use Rattle.store_steps.specs.Prelude.{State, Call, submitting, reading, stepping, Refuses, memory_of}
 use Rattle.run_facts.specs.Prelude.{IsKept}
 use Rattle.run_facts.proofs.Prelude.{kept_call}
@@ -29,17 +30,9 @@ none_added [] x e = cc
 none_added (y ∷ ys) x e = none_added ys x cc
 
 -- a read isn't answered with want of room
-read_not_full : (e : Disk) (t : State) (command : Command) (a : Answer) (need left : ℕ) → HasReadNames command
-    → IsAnswerOf (width_of t.log.sup) (memory_of t) (IsHeldAt e) t.submitted command a → a ≡ answer.MetaFull need left → ⊥
-read_not_full e t (ask.Read c o off len) (answer.MetaFull need room) n l names given is = given.1
-read_not_full e t (ask.Sum c o) (answer.MetaFull need room) n l names given is = given.1
-read_not_full e t (ask.Stat c o) (answer.MetaFull need room) n l names given is = given.1
-read_not_full e t (ask.GetAttr c o name) (answer.MetaFull need room) n l names given is = given.1
-read_not_full e t (ask.OmapGet c o key) (answer.MetaFull need room) n l names given is = given.1
-read_not_full e t (ask.OmapHeader c o) (answer.MetaFull need room) n l names given is = given.1
-read_not_full e t (ask.List c) (answer.MetaFull need room) n l names given is = given.1
-read_not_full e t command (answer.MetaFull need room) n l names given is = names
-read_not_full e t command a n l names given is = cc
+read_not_full : (e : Disk) (t : State) (read : Read) (a : Answer) (need left : ℕ)
+    → IsAnswerOf (width_of t.log.sup) (memory_of t) (IsHeldAt e) t.submitted read a → a ≡ answer.MetaFull need left → ⊥
+read_not_full e t read a need left given is = subst IsOfRead is (given_by_read (width_of t.log.sup) (memory_of t) (IsHeldAt e) t.submitted read a given)
 
 -- ---- a call
 
@@ -72,11 +65,11 @@ module _ (room needed : ℕ) (p q : Position) (kept : IsKept p.state p.disk) (be
         | inr (inl refuses) ↦ refused_full e need left added full client line change refuses.0 refuses.1
         | inr (inr away) ↦ absurd (none_here e need left added full (ap (λ (z : State). z.book.entries) away.same))
       ]
-  call_full (reading client line command) draws = λ e need left added full.
-      elim draws.called.1 [
+  call_full (reading client line read) draws = λ e need left added full.
+      elim draws.called.0 [
         | inl is ↦ (
-            let own : Entry = record { client = client; line = line; command = command; answer = is.0; acks = p.state.acked } in
-            absurd (read_not_full p.disk p.state command is.0 need left is.1.names is.1.given
+            let own : Entry = record { client = client; line = line; command = ask.Read read; answer = is.0; acks = p.state.acked } in
+            absurd (read_not_full p.disk p.state read is.0 need left is.1.given
             (own_full e need left added full own (ap (λ (z : State). z.book.entries) is.1.after))))
         | inr away ↦ absurd (none_here e need left added full (ap (λ (z : State). z.book.entries) away.same))
       ]
@@ -91,8 +84,8 @@ call_room (submitting client line change) p q draws kept =
     run_room (submitting client line change ∷ []) p.state q.state p.disk q.disk plans_keep kept
     (q.state, (q.disk, (draws.called, (draws.sound, (refl, refl))))) in
     omega (arith, one)
-call_room (reading client line command) p q draws kept =
-    run_room (reading client line command ∷ []) p.state q.state p.disk q.disk plans_keep kept
+call_room (reading client line read) p q draws kept =
+    run_room (reading client line read ∷ []) p.state q.state p.disk q.disk plans_keep kept
     (q.state, (q.disk, (draws.called, (draws.sound, (refl, refl)))))
 call_room (stepping step) p q draws kept =
     run_room (stepping step ∷ []) p.state q.state p.disk q.disk plans_keep kept (q.state, (q.disk, (draws.called, (draws.sound, (refl, refl)))))

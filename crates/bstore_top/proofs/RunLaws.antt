@@ -31,7 +31,7 @@ use Rattle.store_steps.specs.declared.context.Context.{Context}
 use Rattle.run_facts.specs.Prelude.{AcksAre, IsKept}
 use Rattle.run_facts.proofs.Prelude.{none_ready, idle_pending, idle_acked, kept_run}
 use Rattle.unit_facts.proofs.Runs.{drained_clean}
-use Rattle.draft_rows.proofs.PlanLaws.{plans_keep}
+use Rattle.plan_proofs.proofs.PlanLaws.{plans_keep}
 use Rattle.book_facts.specs.Prelude.{KnownOfBook, AreQueued, IsInOrder}
 use Rattle.book_facts.proofs.Prelude.{book_opened, known_legal, book_run, order_run, order_opened, one_if, count_cons}
 use Rattle.crash_facts.specs.Store.{KnownOfStore, IsDurable, KeepsDurable}

@@ -10,6 +10,7 @@ use Rattle.object_model.specs.declared.book.Book.{Book}
 use Rattle.object_model.specs.declared.book.Commit.{Commit}
 use Rattle.object_model.specs.declared.command.Command.{Command}
 use Rattle.object_model.specs.declared.command.Command.TheVariants as ask
+use Rattle.object_model.specs.declared.command.Read.TheVariants as reads
 use Rattle.object_model.specs.declared.command.Answer.{Answer}
 use Rattle.object_model.specs.declared.command.Answer.TheVariants as answer
 use Rattle.store_image.specs.Prelude.{LeavesPrefix}
@@ -30,10 +31,10 @@ digit_other n few is = by (nat_lt n 10) is
     by false same = omega (arith, same, few)
 
 value_other : (bytes : List ℕ) (command : Command) → reply_text false command (answer.Bytes bytes) ≡ codes "ok" → ⊥
-value_other bytes (ask.Read c o off len) is = let no : 97 ≡ 107 = ap second is in omega (arith, no)
-value_other bytes (ask.GetAttr c o name) is = let no : 116 ≡ 107 = ap second is in omega (arith, no)
-value_other bytes (ask.OmapGet c o key) is = let no : 109 ≡ 107 = ap second is in omega (arith, no)
-value_other bytes (ask.OmapHeader c o) is = let no : 101 ≡ 107 = ap second is in omega (arith, no)
+value_other bytes (ask.Read (reads.Bytes c o off len)) is = let no : 97 ≡ 107 = ap second is in omega (arith, no)
+value_other bytes (ask.Read (reads.GetAttr c o name)) is = let no : 116 ≡ 107 = ap second is in omega (arith, no)
+value_other bytes (ask.Read (reads.OmapGet c o key)) is = let no : 109 ≡ 107 = ap second is in omega (arith, no)
+value_other bytes (ask.Read (reads.OmapHeader c o)) is = let no : 101 ≡ 107 = ap second is in omega (arith, no)
 value_other [] command is = let no : 0 ≡ 107 = ap second is in omega (arith, no)
 value_other (b ∷ bs) command is = digit_other (b % 16) (omega arith) (ap second is)
 

@@ -12,6 +12,7 @@ use Rattle.object_model.specs.declared.book.Commit.{Commit}
 use Rattle.object_model.specs.declared.book.Entry.{Entry}
 use Rattle.object_model.specs.declared.command.Command.{Command}
 use Rattle.object_model.specs.declared.command.Command.TheVariants as command
+use Rattle.object_model.specs.declared.command.Read.{Read}
 use Rattle.script_text.specs.declared.line.Line.{Line}
 use Rattle.store_steps.specs.declared.step.Step.{Step}
 use Rattle.store_steps.specs.declared.step.Step.TheVariants as steps
@@ -20,9 +21,9 @@ use Rattle.run_facts.specs.Prelude.{AcksAre, IsKept, BookStep, book_same, book_c
 use Rattle.run_facts.proofs.Prelude.{book_step, kept_call}
 use Rattle.book_facts.specs.Prelude.{commit_places}
 use Rattle.book_facts.proofs.Prelude.{places_acknowledged}
-use Rattle.draft_rows.proofs.PlanLaws.{plans_keep}
+use Rattle.plan_proofs.proofs.PlanLaws.{plans_keep}
 use Rattle.object_model.specs.Prelude.{is_acknowledged}
-use Rattle.client_runs.specs.Prelude.{Ask, asks_of, is_accepted_of, unacked_from, unacked, may_ask, call_of, next_call, client_calls, ready_list, behind, asks_after, Position, calls_at, Draws, IsDrawnRun, command_sum, Asked, asked_in, asked_by, entries_of, EachAskedUpTo, at_position, IsNew, EndsRun, RunsUpTo}
+use Rattle.client_runs.specs.Prelude.{Ask, asks_of, is_accepted_of, unacked_from, unacked, may_ask, call_of, next_call, client_calls, ready_list, scripts_behind, asks_after, Position, calls_at, Draws, IsDrawnRun, command_sum, Asked, asked_in, asked_by, entries_of, EachAskedUpTo, at_position, IsNew, EndsRun, RunsUpTo}
 use Rattle.client_runs.specs.declared.run_fail.RunFail.{RunFail}
 use Rattle.client_runs.specs.declared.run_fail.RunFail.TheVariants as run
 use Rattle.bstore_top.specs.Waiting.{is_among_first, HasWaited, IsBehindWait, EachHasWaited, HaveWaited}
@@ -102,36 +103,24 @@ submit_enters client line change s d s' (inr (inl refuses)) = inr (record {
 })
 submit_enters client line change s d s' (inr (inr away)) = inl away.same
 
-read_enters : (client line : ℕ) (command : Command) (s : State) (d : Disk) (s' : State) → Reads client line command s d s' → (s' ≡ s) ⊎ Enters client s s'
-read_enters client line command s d s' (inl answers) = inr (record {
+read_enters : (client line : ℕ) (read : Read) (s : State) (d : Disk) (s' : State) → Reads client line read s d s' → (s' ≡ s) ⊎ Enters client s s'
+read_enters client line read s d s' (inl answers) = inr (record {
   e = _;
   client_is = refl;
   acks = refl;
   entries = ap (λ (z : State). z.book.entries) answers.1.after;
   commits = ap (λ (z : State). z.book.commits) answers.1.after;
 })
-read_enters client line command s d s' (inr away) = inl away.same
+read_enters client line read s d s' (inr away) = inl away.same
 
 call_enters : (client line : ℕ) (command : Command) (s : State) (d : Disk) (s' : State) (d' : Disk) → Calls (call_of client line command) s d s' d'
     → (s' ≡ s) ⊎ Enters client s s'
 call_enters client line (command.Change change) s d s' d' calls = submit_enters client line change s d s' calls.1
-call_enters client line (command.Read coll object off len) s d s' d' calls = read_enters client line (command.Read coll object off len) s d s' calls.1
-call_enters client line (command.Sum coll object) s d s' d' calls = read_enters client line (command.Sum coll object) s d s' calls.1
-call_enters client line (command.Stat coll object) s d s' d' calls = read_enters client line (command.Stat coll object) s d s' calls.1
-call_enters client line (command.GetAttr coll object name) s d s' d' calls = read_enters client line (command.GetAttr coll object name) s d s' calls.1
-call_enters client line (command.OmapGet coll object key) s d s' d' calls = read_enters client line (command.OmapGet coll object key) s d s' calls.1
-call_enters client line (command.OmapHeader coll object) s d s' d' calls = read_enters client line (command.OmapHeader coll object) s d s' calls.1
-call_enters client line (command.List coll) s d s' d' calls = read_enters client line (command.List coll) s d s' calls.1
+call_enters client line (command.Read read) s d s' d' calls = read_enters client line read s d s' calls.0
 
-behind_call : (client line : ℕ) (command : Command) (clients : List (List Ask)) → asks_after (call_of client line command) clients ≡ behind client clients
+behind_call : (client line : ℕ) (command : Command) (clients : List (List Ask)) → asks_after (call_of client line command) clients ≡ scripts_behind client clients
 behind_call client line (command.Change change) clients = refl
-behind_call client line (command.Read coll object off len) clients = refl
-behind_call client line (command.Sum coll object) clients = refl
-behind_call client line (command.Stat coll object) clients = refl
-behind_call client line (command.GetAttr coll object name) clients = refl
-behind_call client line (command.OmapGet coll object key) clients = refl
-behind_call client line (command.OmapHeader coll object) clients = refl
-behind_call client line (command.List coll) clients = refl
+behind_call client line (command.Read read) clients = refl
 
 -- ---- what is drawn
 
@@ -206,11 +195,11 @@ drawn_of p k call found = elim (of_both (client_calls 0 p.clients p.state.book) 
 -- ---- no command is lost
 
 left_behind : (i : ℕ) (clients : List (List Ask)) (next : Ask) (rest : List Ask) → slice_get clients i ≡ Some (next ∷ rest)
-    → command_sum (behind i clients) + 1 ≡ command_sum clients
+    → command_sum (scripts_behind i clients) + 1 ≡ command_sum clients
 left_behind i [] next rest there = absurd cc
 left_behind zero (asks ∷ more) next rest there =
     let same : asks ≡ next ∷ rest = same_Some asks (next ∷ rest) there in
-    subst (λ (l : List Ask). command_sum (behind zero (l ∷ more)) + 1 ≡ command_sum (l ∷ more)) (sym same) (omega arith)
+    subst (λ (l : List Ask). command_sum (scripts_behind zero (l ∷ more)) + 1 ≡ command_sum (l ∷ more)) (sym same) (omega arith)
 left_behind (suc i) (asks ∷ more) next rest there = let ih = left_behind i more next rest there in omega (arith, ih)
 
 -- the entries that there are, and the commands left
@@ -221,7 +210,7 @@ total p = length p.state.book.entries + command_sum p.clients
 pub data Drew (p r : Position) : Type 0 where
   drew_step : r.clients ≡ p.clients → BookGoesOn p.state.book r.state.book → Drew p r
   drew_client : (i : ℕ) (next : Ask) (rest : List Ask) → slice_get p.clients i ≡ Some (next ∷ rest) → may_ask i next p.state.book ≡ true
-      → r.clients ≡ behind i p.clients → (r.state ≡ p.state) ⊎ Enters i p.state r.state → Drew p r
+      → r.clients ≡ scripts_behind i p.clients → (r.state ≡ p.state) ⊎ Enters i p.state r.state → Drew p r
 
 drew : (p : Position) (call : Call) (r : Position) → Draws p call r → Drew p r
 drew p call r draws = elim (drawn_of p _ call draws.drawn) [
@@ -230,7 +219,7 @@ drew p call r draws = elim (drawn_of p _ call draws.drawn) [
       subst (λ (c : Call). Calls c p.state p.disk r.state r.disk) next.is draws.called in
       drew_client next.i next.next next.rest next.there (subst (λ (n : ℕ). may_ask n next.next p.state.book ≡ true) same next.may)
       (draws.clients ∙ (ap (λ (c : Call). asks_after c p.clients) next.is
-      ∙ (behind_call (0 + next.i) next.next.line next.next.command p.clients ∙ ap (λ (n : ℕ). behind n p.clients) same)))
+      ∙ (behind_call (0 + next.i) next.next.line next.next.command p.clients ∙ ap (λ (n : ℕ). scripts_behind n p.clients) same)))
       (subst (λ (n : ℕ). (r.state ≡ p.state) ⊎ Enters n p.state r.state) same
       (call_enters (0 + next.i) next.next.line next.next.command p.state p.disk r.state r.disk made)))
   | inr step ↦ drew_step (draws.clients ∙ ap (λ (c : Call). asks_after c p.clients) step.1)
@@ -357,7 +346,7 @@ each_more : (lefts : List (List Ask)) (book book' : Book) (place : ℕ) (es : Li
 each_more lefts book book' place [] goes waited = tt
 each_more lefts book book' place (e ∷ es) goes waited = (
   λ waits. waited_more book book' place e goes (waited.0 waits),
-  each_more (behind e.client lefts) book book' (place + 1) es goes waited.1,
+  each_more (scripts_behind e.client lefts) book book' (place + 1) es goes waited.1,
 )
 
 -- a run's entries have waited, and its commits went on
@@ -395,7 +384,7 @@ over i next book may waits = eqb-true (unacked i book) 0 (by_test next.waits (un
 
 -- a command first, whose entry has waited
 client_waits : (p r q : Position) (i : ℕ) (next : Ask) (rest : List Ask) → slice_get p.clients i ≡ Some (next ∷ rest)
-    → may_ask i next p.state.book ≡ true → r.clients ≡ behind i p.clients → (enters : Enters i p.state r.state) → AcksAre p.state.acked p.state.book.commits
+    → may_ask i next p.state.book ≡ true → r.clients ≡ scripts_behind i p.clients → (enters : Enters i p.state r.state) → AcksAre p.state.acked p.state.book.commits
     → RunWaits r q → RunWaits p q
 client_waits p r q i next rest there may clients enters acks later = record {
   new = enters.e ∷ later.new;
@@ -430,9 +419,9 @@ client_waits p r q i next rest there may clients enters acks later = record {
     here : IsBehindWait enters.e.client p.clients → HasWaited q.state.book (length p.state.book.entries) enters.e
     here waits = among (waits_there (subst (λ (n : ℕ). IsBehindWait n p.clients) enters.client_is waits))
 
-    behind_it : EachHasWaited (behind enters.e.client p.clients) q.state.book (length p.state.book.entries + 1) later.new
+    behind_it : EachHasWaited (scripts_behind enters.e.client p.clients) q.state.book (length p.state.book.entries + 1) later.new
     behind_it =
-        subst (λ (n : ℕ). EachHasWaited (behind n p.clients) q.state.book (length p.state.book.entries + 1) later.new) (sym enters.client_is)
+        subst (λ (n : ℕ). EachHasWaited (scripts_behind n p.clients) q.state.book (length p.state.book.entries + 1) later.new) (sym enters.client_is)
         (subst (λ (cs : List (List Ask)). EachHasWaited cs q.state.book (length p.state.book.entries + 1) later.new) clients
         (subst (λ (n : ℕ). EachHasWaited r.clients q.state.book n later.new)
         (ap (λ (es : List Entry). length es) enters.entries ∙ length-append p.state.book.entries (enters.e ∷ [])) later.waited))

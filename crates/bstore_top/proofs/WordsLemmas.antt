@@ -8,7 +8,8 @@ use Rattle.command_words.specs.declared.command_line.CommandLine.TheVariants.{Mk
 use Rattle.run_texts.specs.declared.status.Stop.TheVariants as stop
 use Rattle.run_texts.specs.declared.work_end.WorkEnd.TheVariants as end
 use Rattle.run_texts.specs.Prelude.{Output, ReportsStep, ReportsStop}
-use Rattle.bstore_top.specs.StepRun.{seen, empty_book}
+use Rattle.client_runs.specs.Prelude.{empty_book}
+use Rattle.bstore_top.specs.StepRun.{seen}
 use Rattle.bstore_top.specs.Run.{LeavesGiven, Ran}
 
 module _ (status : ℕ) (disk : Option Disk) (book : Book) (old new : Output) (no_disk : disk ≡ None) (no_book : book ≡ empty_book)

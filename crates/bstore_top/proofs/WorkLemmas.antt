@@ -95,7 +95,7 @@ device_goes_on d d' (gives_none (inr waits)) = subst (λ (z : Disk). WentOn d z)
 
 call_goes_on : (call : Call) (s : State) (d : Disk) (s' : State) (d' : Disk) → Calls call s d s' d' → WentOn d d'
 call_goes_on (submitting client line change) s d s' d' calls = went_equal d d' calls.2
-call_goes_on (reading client line command) s d s' d' calls = went_equal d d' calls.2
+call_goes_on (reading client line read) s d s' d' calls = went_equal d d' calls.1
 call_goes_on (stepping step) s d s' d' calls = device_goes_on d d' (device_goes step s d s' d' calls.1)
 
 run_goes_on : (calls : List Call) (s : State) (d : Disk) (s' : State) (d' : Disk) → IsRun s d calls s' d' → WentOn d d'

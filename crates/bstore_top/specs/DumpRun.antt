@@ -19,7 +19,8 @@ use Rattle.run_texts.specs.declared.work_end.WorkEnd.{WorkEnd}
 use Rattle.run_texts.specs.declared.work_end.WorkEnd.TheVariants.{Done, DeviceFault, OutOfMemory, BayFault, SinkFault}
 use Rattle.run_texts.specs.Prelude.{dump_text, Output, TookAll, FailedToPrint, ReportsDump}
 use Rattle.bstore_top.specs.Keeping.{StaysDurable}
-use Rattle.bstore_top.specs.StepRun.{Seen, empty_book, FailsToMount, HasCounted, LeftByMount}
+use Rattle.client_runs.specs.Prelude.{empty_book}
+use Rattle.bstore_top.specs.StepRun.{Seen, FailsToMount, HasCounted, LeftByMount}
 
 -- how far a walk came, whose run ended so
 abbrev pub Walked : Width → WorkEnd → Disk → Rows → List CollView → Type 0

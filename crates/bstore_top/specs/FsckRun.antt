@@ -10,7 +10,8 @@ use Rattle.fsck_check.specs.Checking.{FoundAll, FailsFsck}
 use Rattle.run_texts.specs.declared.work_end.WorkEnd.{WorkEnd}
 use Rattle.run_texts.specs.declared.work_end.WorkEnd.TheVariants.{NoSuper, DeviceFault, OutOfMemory}
 use Rattle.run_texts.specs.Prelude.{Output, ReportsFsck}
-use Rattle.bstore_top.specs.StepRun.{Seen, empty_book}
+use Rattle.client_runs.specs.Prelude.{empty_book}
+use Rattle.bstore_top.specs.StepRun.{Seen}
 use Rattle.bstore_top.specs.DumpRun.{FailsUnopened}
 
 -- how a run ends that looked through no store

@@ -9,7 +9,7 @@ use Rattle.client_runs.specs.Prelude.{Position, Draws, IsDrawnRun}
 -- the units of the log that a drawn call's transaction needs, if it is accepted
 abbrev pub need_of_call : (call : Call) (p q : Position) → Draws p call q → ℕ
 need_of_call (submitting client line change) p q draws = need_if_accepted client line change p.state p.disk q.state draws.called.1
-need_of_call (reading client line command) p q draws = 0
+need_of_call (reading client line read) p q draws = 0
 need_of_call (stepping step) p q draws = 0
 
 -- An entry that a call adds tells of want of room only where it, with so many units that were needed before, needs more than there was room for.

@@ -108,16 +108,16 @@ abbrev pub ForLine : List (List ℕ) → (CommandLine → Type 0) → Type 0
 ForLine words P = (line : CommandLine) → Spells words line → P line
 
 -- no script was opened, and no command of a client was made
-pub record IsBare {S : Type 0} (sources : List S) (book : Book) : Type 0 where
+pub record IsUnstarted {S : Type 0} (sources : List S) (book : Book) : Type 0 where
   pub no_source : sources ≡ []
   pub no_book : book ≡ record { entries = []; commits = [] }
 
 -- only `step` opens scripts and has a book
 abbrev pub LeavesBook : {S : Type 0} → CommandLine → List S → Book → Type 0
-LeavesBook (Mkfs dev half units prefer) sources book = IsBare sources book
+LeavesBook (Mkfs dev half units prefer) sources book = IsUnstarted sources book
 LeavesBook (Step dev seed scripts) sources book = Unit {0}
-LeavesBook (Dump dev) sources book = IsBare sources book
-LeavesBook (Fsck dev) sources book = IsBare sources book
+LeavesBook (Dump dev) sources book = IsUnstarted sources book
+LeavesBook (Fsck dev) sources book = IsUnstarted sources book
 
 -- the words spell no `step`
 abbrev pub IsNoStep : List (List ℕ) → Type 0
@@ -125,4 +125,4 @@ IsNoStep words = (dev : List ℕ) (seed : ℕ) (scripts : List (List ℕ)) → �
 
 -- words that spell no `step` open no script, and have no book
 abbrev pub IsBareUnlessStep : {S : Type 0} → List (List ℕ) → List S → Book → Type 0
-IsBareUnlessStep words sources book = IsNoStep words → IsBare sources book
+IsBareUnlessStep words sources book = IsNoStep words → IsUnstarted sources book

@@ -2,7 +2,7 @@
 use Rattle.std.specs.Prelude.{◌≡◌, ◌↔◌, ℕ, List, length, Contains}
 use Rattle.unit_fields.specs.Prelude.{Ascends}
 use Rattle.block_device.specs.Prelude.{last, IsClean, History}
-use Rattle.object_model.specs.Prelude.{Objects, replay, accepted, acked_count, places_of, committed_places}
+use Rattle.object_model.specs.Prelude.{Objects, replay, accepted, acked_count, entry_places, committed_places}
 use Rattle.object_model.specs.declared.book.Book.{Book}
 use Rattle.meta_rows.specs.Prelude.{Rows}
 use Rattle.meta_log.specs.declared.slot.Super.{Super}
@@ -34,5 +34,5 @@ pub record IsFinished (objects : Objects) (free : ℕ) (book : Book) (h : Histor
 
 -- each accepted transaction is committed, those of a collection in their order, and each commit is acknowledged
 pub record IsComplete (book : Book) : Type 0 where
-  pub in_order : (coll : List ℕ) → places_of coll book.entries ≡ committed_places coll book.entries book.commits
+  pub in_order : (coll : List ℕ) → entry_places coll book.entries ≡ committed_places coll book.entries book.commits
   pub acked : acked_count book.commits ≡ length book.commits

@@ -21,7 +21,7 @@ use Rattle.read_facts.specs.Prelude.{IsLegalButBytes}
 use Rattle.script_reading.specs.Prelude.{HaveScripts, AreReadWhole, FailsToRead}
 use Rattle.script_reading.specs.declared.unread.Unread.{Unread}
 use Rattle.script_reading.specs.declared.unread.Unread.TheVariants as unread
-use Rattle.client_runs.specs.Prelude.{asks_of, at_position, AreAsked, RunsUpTo}
+use Rattle.client_runs.specs.Prelude.{asks_of, at_position, AreAsked, RunsUpTo, empty_book}
 use Rattle.client_runs.specs.declared.run_fail.RunFail.{RunFail}
 use Rattle.client_runs.specs.declared.run_fail.RunFail.TheVariants as run
 use Rattle.run_texts.specs.declared.work_end.WorkEnd.{WorkEnd}
@@ -110,9 +110,6 @@ pub record Seen : Type 0 where
 
 abbrev pub seen : Option Disk → Option ℕ → List ℕ → Book → Seen
 seen disk dev_faults source_faults book = record { disk = disk; dev_faults = dev_faults; source_faults = source_faults; book = book }
-
-abbrev pub empty_book : Book
-empty_book = record { entries = []; commits = [] }
 
 -- all scripts were read, and then the bay failed to give the device
 pub record FailsToOpen (names : Option Names) (files : List (List ℕ)) (source_faults : List ℕ) (before now : ℕ) : Type 0 where

@@ -5,7 +5,7 @@ use Rattle.object_model.specs.declared.book.Book.{Book}
 use Rattle.object_model.specs.declared.book.Commit.{Commit}
 use Rattle.object_model.specs.declared.book.Entry.{Entry}
 use Rattle.script_text.specs.declared.line.Line.{Line}
-use Rattle.client_runs.specs.Prelude.{Ask, asks_of, is_accepted_of, behind}
+use Rattle.client_runs.specs.Prelude.{Ask, asks_of, is_accepted_of, scripts_behind}
 
 -- whether the transaction at a place is among so many first commits
 abbrev pub is_among_first : ℕ → List Commit → ℕ → Bool
@@ -28,7 +28,7 @@ IsBehindWait client lefts = IsSomeAnd (next_of client lefts) (λ a. a.waits ≡ 
 abbrev pub EachHasWaited : List (List Ask) → Book → ℕ → List Entry → Type 0
 EachHasWaited lefts book place [] = Unit {0}
 EachHasWaited lefts book place (e ∷ es) =
-    (IsBehindWait e.client lefts → HasWaited book place e) × EachHasWaited (behind e.client lefts) book (place + 1) es
+    (IsBehindWait e.client lefts → HasWaited book place e) × EachHasWaited (scripts_behind e.client lefts) book (place + 1) es
 
 -- so it is of all entries of a run of these scripts
 abbrev pub HaveWaited : List (List Line) → Book → Type 0

@@ -10,7 +10,8 @@ ghost use Rattle.command_words.specs.declared.command_line.CommandLine.TheVarian
 ghost use Rattle.run_texts.specs.Prelude.{output};
 ghost use Rattle.bstore_top.specs.Dumping.{IsOfUp, end_of_walk, PrintsColl, PrintsWalk, PrintsDump, PrintsDone};
 ghost use Rattle.bstore_top.specs.Keeping.{StaysDurable};
-ghost use Rattle.bstore_top.specs.StepRun.{seen, empty_book};
+ghost use Rattle.client_runs.specs.Prelude.{empty_book};
+ghost use Rattle.bstore_top.specs.StepRun.{seen};
 ghost use Rattle.bstore_top.specs.Run.{ComesBack};
 
 use crate::script_work::{unmounted, unopened};

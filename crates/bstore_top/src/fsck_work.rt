@@ -2,7 +2,8 @@
 ghost use Rattle.std.specs.Prelude.{◌≡◌, ◌<◌, ◌≤◌, ◌+◌, ◌^◌, []};
 ghost use Rattle.std.specs.Option.{option_map};
 ghost use Rattle.command_words.specs.declared.command_line.CommandLine.TheVariants.{Fsck};
-ghost use Rattle.bstore_top.specs.StepRun.{seen, empty_book};
+ghost use Rattle.client_runs.specs.Prelude.{empty_book};
+ghost use Rattle.bstore_top.specs.StepRun.{seen};
 ghost use Rattle.bstore_top.specs.FsckRun.{end_of_fsck, LooksThrough, IsFsckDone};
 ghost use Rattle.bstore_top.specs.Run.{ComesBack};
 

@@ -7,7 +7,7 @@ ghost use Rattle.run_texts.specs.Prelude.{number, output};
 ghost use Rattle.bstore_top.specs.StepRun.{seen, RanStep};
 ghost use Rattle.bstore_top.specs.DumpRun.{RanDump};
 ghost use Rattle.bstore_top.specs.FsckRun.{RanFsck};
-ghost use Rattle.bstore_top.specs.Run.{Ran, RanMkfs, ForLine, ComesBack, CameBack, EachCrashLeavesPrefix, HasStore, SpellsNone, IsBare, IsBareUnlessStep, LeavesBook};
+ghost use Rattle.bstore_top.specs.Run.{Ran, RanMkfs, ForLine, ComesBack, CameBack, EachCrashLeavesPrefix, HasStore, SpellsNone, IsUnstarted, IsBareUnlessStep, LeavesBook};
 
 use crate::Outcome;
 use crate::dump_work::{DumpWork, dump_store};
@@ -26,7 +26,7 @@ use std::alloc::Global;
 fn bare<D, S>(alloc: Global, status: Status, dev: Option<D>) -> Outcome<D, S>
     ensures status { result.status ≡ number status }
     ensures dev { result.dev ≡ dev }
-    ensures rest { IsBare result.sources.items result.book }
+    ensures rest { IsUnstarted result.sources.items result.book }
     ensures turns { result.turns.items ≡ [] }
 {
     Outcome {
@@ -58,7 +58,7 @@ fn run_mkfs<B: Bay, K: Sink>(
         (output (K.written out.old) (K.faults out.old)) (output (K.written out.new) (K.faults out.new)) }
     ensures device { ComesBack (Mkfs dev.now half units prefer) (B.bay bay.old) (option_map B.Dev.disk result.dev) (B.bay bay.new) }
     ensures store { result.status ≡ 0 → IsSomeAnd (option_map B.Dev.disk result.dev) (HasStore (Mkfs dev.now half units prefer)) }
-    ensures rest { IsBare result.sources.items result.book }
+    ensures rest { IsUnstarted result.sources.items result.book }
     ensures turns { result.turns.items ≡ [] }
 {
     let Work { stop, dev } = make_store(alloc, dev, half, units, prefer, bay);
@@ -114,7 +114,7 @@ fn run_dump<B: Bay, K: Sink>(
         (output (K.written out.old) (K.faults out.old)) (output (K.written out.new) (K.faults out.new)) }
     ensures device { ComesBack (Dump dev.now) (B.bay bay.old) (option_map B.Dev.disk result.dev) (B.bay bay.new) }
     ensures durable { EachCrashLeavesPrefix (Dump dev.now) (B.bay bay.old) (option_map B.Dev.disk result.dev) result.book }
-    ensures rest { IsBare result.sources.items result.book }
+    ensures rest { IsUnstarted result.sources.items result.book }
     ensures turns { result.turns.items ≡ [] }
 {
     let mut text = DumpPrinter::new();
@@ -136,7 +136,7 @@ fn run_fsck<B: Bay, K: Sink>(
         (B.bay bay.old) (B.bay bay.new) (B.faults bay.old) (B.faults bay.new)
         (output (K.written out.old) (K.faults out.old)) (output (K.written out.new) (K.faults out.new)) }
     ensures device { ComesBack (Fsck dev.now) (B.bay bay.old) (option_map B.Dev.disk result.dev) (B.bay bay.new) }
-    ensures rest { IsBare result.sources.items result.book }
+    ensures rest { IsUnstarted result.sources.items result.book }
     ensures turns { result.turns.items ≡ [] }
 {
     let FsckWork { ended, dev } = fsck_store(alloc, dev, bay);

@@ -5,6 +5,7 @@ ghost use Rattle.byte_maps.specs.ByteMap.{byte_order, in_range};
 ghost use Rattle.std.specs.List.Sorted.{IsSearchInRange, IsBinarySearchResult};
 
 use crate::bytes::{Bytes, Duplicate};
+use crate::comparing::byte_order;
 use std::alloc::{AllocError, Global};
 use std::marker::Model;
 
@@ -36,13 +37,13 @@ fn place_of<V>(entries: &[(Bytes, V)], key: &[u8]) -> Result<usize, usize>
     ensures bound { IsSearchInRange result (length entries.now) }
     ensures position { IsBinarySearchResult (λ e. byte_order e.0 key.now) entries.now result }
 {
-    entries.binary_search_by(|entry| entry.0.as_slice().cmp(key))
+    entries.binary_search_by(|entry| byte_order(entry.0.as_slice(), key))
 }
 
 fn is_in_range(first: &[u8], last: &[u8], key: &[u8]) -> bool
     ensures { result ≡ in_range first.now last.now key.now }
 {
-    !key.cmp(first).is_lt() && key.cmp(last).is_lt()
+    !byte_order(key, first).is_lt() && byte_order(key, last).is_lt()
 }
 
 impl<V> ByteMap<V> {

@@ -6,7 +6,7 @@
 //! so that the two forms aren't cases of their proofs. In 32 bytes the kit's `smallvec` keeps 16 in the value itself, and with 30 it
 //! takes 48.
 ghost use Rattle.std.specs.Prelude.{◌≡◌, ◌↔◌, ◌≤◌, ◌<◌, ◌++◌, ◌∷◌, ℕ, List, [], length, take, slice_set, IsTrue, IfOk, OnOk, OnErr};
-ghost use Rattle.byte_maps.specs.Held.{bytes_of, Fits};
+ghost use Rattle.byte_maps.specs.Held.{bytes_of_held, Fits};
 
 use std::alloc::{AllocError, Global};
 use std::marker::Model;
@@ -38,11 +38,11 @@ impl Model for Bytes {
 
     ghost Value = { List ℕ };
 
-    ghost use Rattle.byte_maps.specs.Held.{bytes_in, IsHeld};
+    ghost use Rattle.byte_maps.specs.Held.{bytes_held, FitsHeld};
 
-    ghost view = { bytes_in };
+    ghost view = { bytes_held };
 
-    ghost invariant = { IsHeld };
+    ghost invariant = { FitsHeld };
 }
 
 // Few bytes in an array.
@@ -69,7 +69,7 @@ impl Held {
     // The bytes, lent.
     fn as_slice(&self) -> &[u8]
         requires { Fits self.now }
-        ensures { result.now ≡ bytes_of self.now }
+        ensures { result.now ≡ bytes_of_held self.now }
     {
         match self {
             Held::Few {

@@ -20,7 +20,7 @@ use Rattle.client_runs.specs.declared.client.Client.{Client}
 use Rattle.client_runs.specs.declared.clients.Clients.{Clients}
 use Rattle.client_runs.specs.declared.run_fail.RunFail.{RunFail}
 use Rattle.client_runs.specs.declared.run_fail.RunFail.TheVariants as run
-use Rattle.client_runs.specs.Prelude.{Ask, Asked, call_of, behind, is_accepted_of, unacked, command_sum, left_of, lefts, IsClient, is_able, one_more, able_of, changed, IsOfOne, TakesOf, AreCounts, AreOfClients, AreTied, FitsAsk, EachFits, IsMade, IsUnmade, AsksNext, AsksInVain}
+use Rattle.client_runs.specs.Prelude.{Ask, Asked, call_of, scripts_behind, is_accepted_of, unacked, command_sum, left_of, lefts, IsClient, is_able, one_more, able_of, changed, IsOfOne, TakesOf, AreCounts, AreOfClients, AreTied, FitsAsk, EachFits, IsMade, IsUnmade, AsksNext, AsksInVain}
 use Rattle.client_runs.proofs.DrawLemmas.{get_map}
 use Rattle.client_runs.proofs.ClientLemmas.{length_changed, well_changed, lefts_same}
 use Rattle.client_runs.proofs.TieLemmas.{one_if, unacked_push, unacked_few, count_of, counts_by, counts_changed}
@@ -30,7 +30,7 @@ use Rattle.client_runs.proofs.StepLemmas.{order_one, at_item, there_within}
 
 -- what is left of one client, and of all of them behind its next command
 pub sum_behind : (i : ℕ) (lists : List (List Ask)) (a : Ask) (rest : List Ask) → slice_get lists i ≡ Some (a ∷ rest)
-    → command_sum (behind i lists) + 1 ≡ command_sum lists
+    → command_sum (scripts_behind i lists) + 1 ≡ command_sum lists
 sum_behind i [] a rest at = absurd cc
 sum_behind zero (x ∷ xs) a rest at =
     let same : x ≡ a ∷ rest = cc in
@@ -40,7 +40,7 @@ sum_behind zero (x ∷ xs) a rest at =
 sum_behind (suc i) (x ∷ xs) a rest at = let ih = sum_behind i xs a rest at in omega (arith, ih)
 
 pub fits_behind : (P : Ask → Type 0) (i : ℕ) (lists : List (List Ask)) → AllByRecursion (AllByRecursion P) lists
-    → AllByRecursion (AllByRecursion P) (behind i lists)
+    → AllByRecursion (AllByRecursion P) (scripts_behind i lists)
 fits_behind P i [] all = tt
 fits_behind P zero (x ∷ xs) all = (drop_first x all.0, all.1)
   where
@@ -51,7 +51,7 @@ fits_behind P (suc i) (x ∷ xs) all = (all.0, fits_behind P i xs all.1)
 
 -- a client that was changed to one whose first command is gone
 lefts_behind : (i : ℕ) (cs : List Client) (before after : Client) (a : Ask) → slice_get cs i ≡ Some before → left_of before ≡ a ∷ left_of after
-    → lefts (changed i (λ c. after) cs) ≡ behind i (lefts cs)
+    → lefts (changed i (λ c. after) cs) ≡ scripts_behind i (lefts cs)
 lefts_behind i [] before after a at left = absurd cc
 lefts_behind zero (x ∷ xs) before after a at left =
     let same : x ≡ before = cc in

@@ -29,7 +29,7 @@ use Rattle.client_runs.specs.declared.client.Client.{Client}
 use Rattle.client_runs.specs.declared.clients.Clients.{Clients}
 use Rattle.client_runs.specs.declared.run_fail.RunFail.{RunFail}
 use Rattle.client_runs.specs.declared.run_fail.RunFail.TheVariants as run
-use Rattle.client_runs.specs.Prelude.{Ask, asked, asks_from, asks_of, call_of, behind, asks_after, ready_list, IsDrawnOf, Position, at_position, calls_at, LeadsTo, command_sum, FitsLine, Asked, asked_in, asked_by, entries_of, AskedUpTo, EachAskedUpTo, AreAsked, CallTakesMemory, EndsAs, is_able, left_of, lefts, IsOfOne, AreTied, FitsAsk, EachFits, position_of, StepsOn, DrawsClient, FindsClient, StopsAs, AsksNext, AsksInVain, fail_of, EndsClients, RunsClients, WindsUp, empty_book, IsNew, AreNewClients, AreCounts, AreOfClients, unacked, RunsUpTo}
+use Rattle.client_runs.specs.Prelude.{Ask, asked, asks_from, asks_of, call_of, scripts_behind, asks_after, ready_list, IsDrawnOf, Position, at_position, calls_at, LeadsTo, command_sum, FitsLine, Asked, asked_in, asked_by, entries_of, AskedUpTo, EachAskedUpTo, AreAsked, CallTakesMemory, EndsAs, is_able, left_of, lefts, IsOfOne, AreTied, FitsAsk, EachFits, position_of, StepsOn, DrawsClient, FindsClient, StopsAs, AsksNext, AsksInVain, fail_of, EndsClients, RunsClients, WindsUp, empty_book, IsNew, AreNewClients, AreCounts, AreOfClients, unacked, RunsUpTo}
 use Rattle.client_runs.specs.declared.drawing.Drawn.TheVariants as drawn
 use Rattle.client_runs.proofs.DrawLemmas.{get_map, DrawsCall, drawn_client}
 use Rattle.client_runs.proofs.RunLemmas.{stays, leads_more, leads_on}
@@ -93,7 +93,7 @@ each_other number (asks ∷ more) [] es e low each = absurd each
 
 each_own : (number i : ℕ) (scripts lists : List (List Ask)) (a : Ask) (rest : List Ask) (es : List Entry) (e : Entry)
     → slice_get lists i ≡ Some (a ∷ rest) → asked_in e ≡ asked_by (number + i) a → EachAskedUpTo number scripts es lists
-    → EachAskedUpTo number scripts (es ++ e ∷ []) (behind i lists)
+    → EachAskedUpTo number scripts (es ++ e ∷ []) (scripts_behind i lists)
 each_own number i [] [] a rest es e at same each = tt
 each_own number zero (asks ∷ more) (left ∷ lists) a rest es e at same each =
     let is : left ≡ a ∷ rest = cc in
@@ -119,7 +119,7 @@ as_many number (asks ∷ more) [] es each = absurd each
 -- behind a command that was made
 asked_more : (client : ℕ) (scripts lists : List (List Ask)) (a : Ask) (rest : List Ask) (es : List Entry) (e : Entry)
     → slice_get lists client ≡ Some (a ∷ rest) → asked_in e ≡ asked_by client a → AreAsked scripts es lists
-    → AreAsked scripts (es ++ e ∷ []) (behind client lists)
+    → AreAsked scripts (es ++ e ∷ []) (scripts_behind client lists)
 asked_more client scripts lists a rest es e at same asked = record {
   each = each_own 0 client scripts lists a rest es e at (same ∙ ap (λ (n : ℕ). asked_by n a) {x = client} {y = 0 + client} (omega arith)) asked.each;
   no_other = all_push (λ x. x.client < length scripts) es e asked.no_other
@@ -213,20 +213,14 @@ module _ (p : Position) (x : ℕ) (c : Clients) (s : State) (d : Disk) (so_far :
     drawn_so a rest at = subst (λ (k : Ask). IsDrawnOf x' (calls_at (position_of one.y c' s' d')) (call_of client k.line k.command))
         (same_next a rest at) the_call.drawn_is
 
-    goes_behind : (line : ℕ) (k : Command) (lists : List (List Ask)) → behind client lists ≡ asks_after (call_of client line k) lists
+    goes_behind : (line : ℕ) (k : Command) (lists : List (List Ask)) → scripts_behind client lists ≡ asks_after (call_of client line k) lists
     goes_behind line (command.Change change) lists = refl
-    goes_behind line (command.Read coll object off len) lists = refl
-    goes_behind line (command.Sum coll object) lists = refl
-    goes_behind line (command.Stat coll object) lists = refl
-    goes_behind line (command.GetAttr coll object name) lists = refl
-    goes_behind line (command.OmapGet coll object key) lists = refl
-    goes_behind line (command.OmapHeader coll object) lists = refl
-    goes_behind line (command.List coll) lists = refl
+    goes_behind line (command.Read read) lists = refl
 
     -- a command takes memory
     takes_memory : (line : ℕ) (k : Command) → CallTakesMemory (call_of client line k)
     takes_memory line (command.Change change) = tt
-    takes_memory line read = tt
+    takes_memory line (command.Read read) = tt
 
     -- its command was made
     pub runs_on : (c'' : Clients) (s'' : State) (d'' : Disk) → AsksNext client c' s' d' c'' s'' d'' → IsSound d'' → IsRunning p x' c'' s'' d''
@@ -255,7 +249,7 @@ module _ (p : Position) (x : ℕ) (c : Clients) (s : State) (d : Disk) (so_far :
             sum_behind client lists asks.next asks.rest asks.left,
           );
           asked = λ scripts was. subst (λ (l : List (List Ask)). AreAsked scripts s''.book.entries l) (sym asks.behind_it)
-              (subst (λ (es : List Entry). AreAsked scripts es (behind client lists)) (sym asks.made.entries)
+              (subst (λ (es : List Entry). AreAsked scripts es (scripts_behind client lists)) (sym asks.made.entries)
               (asked_more client scripts lists asks.next asks.rest s'.book.entries asks.made.entry asks.left asks.made.asked
               (before_it.asked scripts was)));
         }

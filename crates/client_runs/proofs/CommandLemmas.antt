@@ -1,6 +1,6 @@
 -- Commands of clients, and their entries.
 use Rattle.std.proofs.Common.{◌≡◌, inl, inr, ℕ, ◌<◌, Bool, true, false, List, [], ◌∷◌, ◌++◌, length, Some, None}
-use Rattle.std.proofs.Common.{Result, Ok, Err, OnOk, IfErr, MatchResult, ap, ◌∙◌, sym, refl, subst, arith}
+use Rattle.std.proofs.Common.{Result, Ok, Err, OnOk, IfErr, MatchResult, ap, ◌∙◌, sym, refl, arith}
 use Rattle.std.specs.Prelude.{is_some, ◌&&◌}
 use Rattle.std.specs.List.{AllByRecursion}
 use Rattle.std.proofs.lemmas.Bool.{eq-eqb}
@@ -14,15 +14,14 @@ use Rattle.object_model.specs.declared.command.Answer.{Answer}
 use Rattle.object_model.specs.declared.command.Answer.TheVariants as answer
 use Rattle.object_model.specs.declared.command.Command.{Command}
 use Rattle.object_model.specs.declared.command.Command.TheVariants as command
+use Rattle.object_model.specs.declared.command.Read.{Read}
 use Rattle.object_model.specs.declared.book.Entry.{Entry}
-use Rattle.script_text.specs.Prelude.{FitsWhat, IsKnownChange, IsKnownChangeOp}
+use Rattle.script_text.specs.Prelude.{IsKnownChange, IsKnownChangeOp}
 use Rattle.script_text.specs.declared.line.What.TheVariants as what
-use Rattle.store_steps.specs.Prelude.{State, entered, Accepts, Refuses, IsDownBy, IsBookFull, Call, reading, AnswersRead, Calls}
+use Rattle.store_steps.specs.Prelude.{State, entered, Accepts, Refuses, IsDownBy, IsBookFull, AnswersRead, Calls}
 use Rattle.plan_drafts.specs.Prelude.{IsKnown, IsKnownOp}
-use Rattle.read_facts.specs.Prelude.{IsKnownRead}
 use Rattle.store_kernel.specs.Submitting.{RefusesBy, IsReadFail}
 use Rattle.store_kernel.specs.Reading.{UnansweredBy, IsDeviceRead}
-use Rattle.store_kernel.specs.ToRead.{AskNeedsDevice, NeedsDevice}
 use Rattle.store_kernel.specs.declared.unanswered.Unanswered.{Unanswered}
 use Rattle.store_kernel.specs.declared.unanswered.Unanswered.TheVariants as unanswered
 use Rattle.store_kernel.specs.declared.refused.Refused.{Refused}
@@ -47,31 +46,6 @@ pub known_ops : (ops : List Op) → IsKnownChange ops → IsKnown ops
 known_ops [] known = absurd known
 known_ops (o ∷ ops) known = (known_op o known.0, each_known ops known.1)
 
--- the command is no transaction
-abbrev pub IsNoChange : Command → Type 0
-IsNoChange (command.Change change) = ⊥
-IsNoChange read = Unit {0}
-
--- a command other than a transaction is a read
-other_read : (c : Command) → ((change : Change) → c ≡ command.Change change → ⊥) → IsNoChange c
-other_read (command.Change change) other = other change refl
-other_read (command.Read coll object off len) other = tt
-other_read (command.Sum coll object) other = tt
-other_read (command.Stat coll object) other = tt
-other_read (command.GetAttr coll object name) other = tt
-other_read (command.OmapGet coll object key) other = tt
-other_read (command.OmapHeader coll object) other = tt
-other_read (command.List coll) other = tt
-
--- a read that scripts can have is known to the store
-known_read : (c : Command) → IsNoChange c → FitsWhat (what.Command c) → IsKnownRead c
-known_read (command.Change change) is fits = absurd is
-known_read c is fits = tt
-
--- a command that scripts can have, and that is no transaction, is a read that the store knows
-pub known_other : (c : Command) → ((change : Change) → c ≡ command.Change change → ⊥) → FitsWhat (what.Command c) → IsKnownRead c
-known_other c other fits = known_read c (other_read c other) fits
-
 -- the kernel isn't down, and its book isn't full
 not_down : (s : State) (ticket : Ticket) → s.down ≡ None → IsDownBy ticket s → ⊥
 not_down s ticket up down = let never : None ≡ Some ticket = sym up ∙ down in cc
@@ -94,13 +68,13 @@ not_turned_away client line change (Err (refused.Down ticket back)) s d s' up ro
 not_turned_away client line change (Err (refused.BookFull back)) s d s' up room refuses = absurd (not_full s room refuses.0)
 
 -- nor does it turn a read away
-pub no_turn_away : (c : Command) (r : Result ℕ Unanswered) (s s' : State) → s.down ≡ None → length s.book.entries < 1048576
-    → IfErr r (λ why. UnansweredBy why c s s') → IsNoTurnAway r
-no_turn_away c (Ok place) s s' up room unanswered = tt
-no_turn_away c (Err (unanswered.DeviceRead back)) s s' up room away = tt
-no_turn_away c (Err (unanswered.Memory back)) s s' up room away = tt
-no_turn_away c (Err (unanswered.Down ticket back)) s s' up room away = absurd (not_down s ticket up away.0)
-no_turn_away c (Err (unanswered.BookFull back)) s s' up room away = absurd (not_full s room away.0)
+pub no_turn_away : (read : Read) (r : Result ℕ Unanswered) (s s' : State) → s.down ≡ None → length s.book.entries < 1048576
+    → IfErr r (λ why. UnansweredBy why read s s') → IsNoTurnAway r
+no_turn_away read (Ok place) s s' up room unanswered = tt
+no_turn_away read (Err (unanswered.DeviceRead back)) s s' up room away = tt
+no_turn_away read (Err (unanswered.Memory back)) s s' up room away = tt
+no_turn_away read (Err (unanswered.Down ticket back)) s s' up room away = absurd (not_down s ticket up away.0)
+no_turn_away read (Err (unanswered.BookFull back)) s s' up room away = absurd (not_full s room away.0)
 
 -- ---- the entry of a command
 
@@ -169,44 +143,28 @@ submit_rose r (Err run.Memory) A cause noted is = absurd cc
 submit_rose r (Err run.Fault) A cause noted is = absurd cc
 submit_rose r (Ok accepted) A cause noted is = absurd cc
 
--- a known read is a call that reads, and accepts nothing
-call_reads : (client line : ℕ) (c : Command) → IsKnownRead c → call_of client line c ≡ reading client line c
-call_reads client line (command.Change change) known = absurd known
-call_reads client line c known = refl
-
-accepts_none : (c : Command) (a : Answer) → IsKnownRead c → is_some (accepted_change c a) ≡ false
-accepts_none (command.Change change) a known = absurd known
-accepts_none c a known = refl
-
--- of a read it is known what that needs
-read_needs : (c : Command) (s : State) → IsKnownRead c → AskNeedsDevice c s → NeedsDevice c s
-read_needs (command.Change change) s known needs = absurd known
-read_needs c s known needs = needs
-
 -- a read that has no answer leaves the kernel as it was
-unanswered_same : (e : RunFail) (why : Unanswered) (client line : ℕ) (c : Command) (s : State) (d : Disk) (s' : State) (d' : Disk) → IsKnownRead c
-    → UnansweredBy why c s s' → d' ≡ d → IsFailOf e (Err why) → IsUnmade e client line c s d s' d'
-unanswered_same run.DeviceRead (unanswered.DeviceRead back) client line c s d s' d' may away same is = (away.0, same, read_needs c s may away.2)
-unanswered_same run.Memory (unanswered.Memory back) client line c s d s' d' may away same is = (away.0, same)
-unanswered_same e why client line c s d s' d' may away same is = absurd is
+unanswered_same : (e : RunFail) (why : Unanswered) (client line : ℕ) (read : Read) (s : State) (d : Disk) (s' : State) (d' : Disk)
+    → UnansweredBy why read s s' → d' ≡ d → IsFailOf e (Err why) → IsUnmade e client line (command.Read read) s d s' d'
+unanswered_same run.DeviceRead (unanswered.DeviceRead back) client line read s d s' d' away same is = (away.0, same, away.2)
+unanswered_same run.Memory (unanswered.Memory back) client line read s d s' d' away same is = (away.0, same)
+unanswered_same e why client line read s d s' d' away same is = absurd is
 
 -- what a read makes, by its end
-pub replied_ends : (client line : ℕ) (c : Command) (r : Result ℕ Unanswered) (out : Result (Unit {0}) RunFail) (s : State) (d : Disk) (s' : State)
+pub replied_ends : (client line : ℕ) (read : Read) (r : Result ℕ Unanswered) (out : Result (Unit {0}) RunFail) (s : State) (d : Disk) (s' : State)
     (d' : Disk)
-    → s.down ≡ None → IsKnownRead c → d' ≡ d → OnOk r ((a : Answer) × AnswersRead client line c a s d s')
-    → IfErr r (λ why. UnansweredBy why c s s')
+    → s.down ≡ None → d' ≡ d → OnOk r ((a : Answer) × AnswersRead client line read a s d s')
+    → IfErr r (λ why. UnansweredBy why read s s')
     → MatchResult out (λ _. IsReplied r) (λ e. IsFailOf e r)
-    → MatchResult out (λ _. IsMade client line c false s d s' d') (λ e. IsUnmade e client line c s d s' d')
-replied_ends client line c (Ok place) (Ok u) s d s' d' up may same answered away replied =
-    let called : Calls (call_of client line c) s d s' d' =
-    subst (λ (call : Call). Calls call s d s' d') (sym (call_reads client line c may)) (may, inl answered, same) in
-    made_by client line c answered.0 false s s d s' d' up called refl refl (accepts_none c answered.0 may) answered.1.after
-replied_ends client line c (Err why) (Err e) s d s' d' up may same answered away replied =
-    unanswered_same e why client line c s d s' d' may away same replied
-replied_ends client line c (Ok place) (Err run.Memory) s d s' d' up may same answered away replied = absurd replied
-replied_ends client line c (Ok place) (Err run.Fault) s d s' d' up may same answered away replied = absurd replied
-replied_ends client line c (Ok place) (Err run.DeviceRead) s d s' d' up may same answered away replied = absurd replied
-replied_ends client line c (Err why) (Ok u) s d s' d' up may same answered away replied = absurd replied
+    → MatchResult out (λ _. IsMade client line (command.Read read) false s d s' d') (λ e. IsUnmade e client line (command.Read read) s d s' d')
+replied_ends client line read (Ok place) (Ok u) s d s' d' up same answered away replied =
+    made_by client line (command.Read read) answered.0 false s s d s' d' up (inl answered, same) refl refl refl answered.1.after
+replied_ends client line read (Err why) (Err e) s d s' d' up same answered away replied =
+    unanswered_same e why client line read s d s' d' away same replied
+replied_ends client line read (Ok place) (Err run.Memory) s d s' d' up same answered away replied = absurd replied
+replied_ends client line read (Ok place) (Err run.Fault) s d s' d' up same answered away replied = absurd replied
+replied_ends client line read (Ok place) (Err run.DeviceRead) s d s' d' up same answered away replied = absurd replied
+replied_ends client line read (Err why) (Ok u) s d s' d' up same answered away replied = absurd replied
 
 -- what is known where the device failed at a read is known where that is why the read has no entry
 pub read_rose : (r : Result ℕ Unanswered) (out : Result (Unit {0}) RunFail) (A : Type 0) → IfErr r (λ why. IsDeviceRead why → A)

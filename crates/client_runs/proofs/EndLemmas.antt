@@ -6,7 +6,7 @@ use Rattle.std.specs.List.{AllByRecursion, list_any}
 use Rattle.std.proofs.lemmas.Bool.{eq-eqb, lt-ltb}
 use Rattle.std.proofs.lemmas.Option.{IfSome_then}
 use Rattle.block_device.specs.Prelude.{Disk}
-use Rattle.object_model.specs.Prelude.{Change, accepted_change, change_at, is_on, places_from, places_of, committed_places, is_acknowledged}
+use Rattle.object_model.specs.Prelude.{Change, accepted_change, change_at, is_on, places_from, entry_places, committed_places, is_acknowledged}
 use Rattle.object_model.proofs.Names.{is_same_itself}
 use Rattle.object_model.specs.declared.book.Book.{Book}
 use Rattle.object_model.specs.declared.book.Commit.{Commit}
@@ -78,14 +78,14 @@ all_of (c ∷ cs) acks = (acks 0 (omega arith), all_of cs (λ i below. acks (suc
 
 -- each commit is acknowledged, and each collection's accepted transactions are committed
 module _ (book : Book) (all_acked : AllByRecursion (λ c. is_some c.acked_at ≡ true) book.commits)
-    (each_place : (coll : List ℕ) → places_of coll book.entries ≡ committed_places coll book.entries book.commits) where
+    (each_place : (coll : List ℕ) → entry_places coll book.entries ≡ committed_places coll book.entries book.commits) where
   -- what was accepted is acknowledged
   acked_at : (p : ℕ) (o : Option Change) → change_at book.entries p ≡ o → is_some o ≡ true → is_acknowledged book.commits p ≡ true
   acked_at p None is some = absurd cc
   acked_at p (Some change) is some =
       let on : is_on change.coll (change_at book.entries p) ≡ true = ap (λ (o : Option Change). is_on change.coll o) is ∙ is_same_itself change.coll in
-      let among : is_among p (places_of change.coll book.entries) ≡ true =
-      ap (λ (n : ℕ). is_among n (places_of change.coll book.entries)) {x = p} {y = 0 + p} (omega arith) ∙ place_among change.coll 0 p book.entries on in
+      let among : is_among p (entry_places change.coll book.entries) ≡ true =
+      ap (λ (n : ℕ). is_among n (entry_places change.coll book.entries)) {x = p} {y = 0 + p} (omega arith) ∙ place_among change.coll 0 p book.entries on in
       among_acked change.coll book.entries p book.commits all_acked (subst (λ (l : List ℕ). is_among p l ≡ true) (each_place change.coll) among)
 
   -- so no client has a transaction under way
@@ -148,7 +148,7 @@ no_clients_left client (asks ∷ more) book idle none =
 
 -- where no client has a call
 pub no_command_left : (clients : List (List Ask)) (book : Book) → AllByRecursion (λ c. is_some c.acked_at ≡ true) book.commits
-    → ((coll : List ℕ) → places_of coll book.entries ≡ committed_places coll book.entries book.commits) → client_calls 0 clients book ≡ []
+    → ((coll : List ℕ) → entry_places coll book.entries ≡ committed_places coll book.entries book.commits) → client_calls 0 clients book ≡ []
     → AllByRecursion (λ asks. asks ≡ []) clients
 no_command_left clients book all each none = no_clients_left 0 clients book (none_under_way book all each) none
 
@@ -159,7 +159,7 @@ module _ (s : State) (d : Disk) (kept : IsKept s d) (order : IsInOrder s) (up : 
   commits_acked = all_of s.book.commits (λ i below. IfSome_then (slice_get s.book.commits i) (kept.always.book.acks i)
       (λ (c : Commit) is. is ∙ lt-ltb i s.acked (omega (arith, below, idle_acked s d kept up drained))))
 
-  all_committed : (coll : List ℕ) → places_of coll s.book.entries ≡ committed_places coll s.book.entries s.book.commits
+  all_committed : (coll : List ℕ) → entry_places coll s.book.entries ≡ committed_places coll s.book.entries s.book.commits
   all_committed coll =
       let queued : AreQueued s.book [] =
       subst (λ (xs : List Context). AreQueued s.book (intents xs)) (idle_pending s d kept up drained) order.queued in

@@ -15,7 +15,7 @@ use Rattle.store_steps.specs.Prelude.{State, commit_of, is_ready, Does, DoesOrFa
 use Rattle.store_kernel.specs.declared.step_fail.StepFail.{StepFail}
 use Rattle.run_facts.specs.Prelude.{IsKept, BookStep, book_same, book_commits, book_acks}
 use Rattle.run_facts.proofs.Prelude.{does_well, book_step, step_entries, ready_by_table, finish_ready, all_left}
-use Rattle.draft_rows.proofs.PlanLaws.{plans_keep}
+use Rattle.plan_proofs.proofs.PlanLaws.{plans_keep}
 use Rattle.book_facts.specs.Prelude.{commit_places, places, IsInOrder}
 use Rattle.book_facts.proofs.Prelude.{order_run}
 use Rattle.client_runs.specs.declared.client.Client.{Client}

@@ -61,7 +61,7 @@ may_ask client a book = not a.waits || (unacked client book == 0)
 -- the call of the kernel that a command of a client is
 abbrev pub call_of : ℕ → ℕ → Command → Call
 call_of client line (command.Change change) = submitting client line change
-call_of client line other = reading client line other
+call_of client line (command.Read read) = reading client line read
 
 -- the call of a client's next command, where it has one that can come now
 abbrev pub next_call : ℕ → List Ask → Book → List Call
@@ -92,15 +92,15 @@ IsDrawnOf x calls call = slice_get calls ((x / 2 ^ 33) % length calls) ≡ Some 
 -- ---- drawn runs
 
 -- what is left of the scripts once this client's next command is made
-abbrev pub behind : ℕ → List (List Ask) → List (List Ask)
-behind client [] = []
-behind zero (asks ∷ more) = drop 1 asks ∷ more
-behind (suc client) (asks ∷ more) = asks ∷ behind client more
+abbrev pub scripts_behind : ℕ → List (List Ask) → List (List Ask)
+scripts_behind client [] = []
+scripts_behind zero (asks ∷ more) = drop 1 asks ∷ more
+scripts_behind (suc client) (asks ∷ more) = asks ∷ scripts_behind client more
 
 -- and behind a call
 abbrev pub asks_after : Call → List (List Ask) → List (List Ask)
-asks_after (submitting client line change) clients = behind client clients
-asks_after (reading client line command) clients = behind client clients
+asks_after (submitting client line change) clients = scripts_behind client clients
+asks_after (reading client line read) clients = scripts_behind client clients
 asks_after (stepping step) clients = clients
 
 -- where a run stands: the number of the generator, what is left of each client's script, the kernel's state, and its device

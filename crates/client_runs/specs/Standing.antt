@@ -18,7 +18,7 @@ use Rattle.client_runs.specs.declared.drawing.Drawn.{Drawn}
 use Rattle.client_runs.specs.declared.drawing.Drawn.TheVariants as drawn
 use Rattle.client_runs.specs.declared.run_fail.RunFail.{RunFail}
 use Rattle.client_runs.specs.declared.run_fail.RunFail.TheVariants as run
-use Rattle.client_runs.specs.Choice.{Ask, turned, ready_list, call_of, is_accepted_of, behind, calls_at, Position, at_position, LeadsTo}
+use Rattle.client_runs.specs.Choice.{Ask, turned, ready_list, call_of, is_accepted_of, scripts_behind, calls_at, Position, at_position, LeadsTo}
 use Rattle.client_runs.specs.Running.{asked_in, LosesRead, EndsAs, AreAsked}
 use Rattle.client_runs.specs.Clients.{lefts, AreTied}
 
@@ -146,7 +146,7 @@ pub record AsksNext (client : ℕ) (clients : Clients) (s : State) (d : Disk) (c
   pub left : slice_get (lefts clients.all.items) client ≡ Some (next ∷ rest)
   pub accepted : Bool
   pub made : IsMade client next.line next.command accepted s d s' d'
-  pub behind_it : lefts clients'.all.items ≡ behind client (lefts clients.all.items)
+  pub behind_it : lefts clients'.all.items ≡ scripts_behind client (lefts clients.all.items)
   pub tied : AreTied clients' s'
 
 -- it wasn't made

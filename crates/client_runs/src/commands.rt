@@ -2,7 +2,6 @@
 ghost use Rattle.std.specs.Prelude.{◌≡◌, ◌≢◌, ◌<◌, ◌≤◌, ◌+◌, None, true, false, length, IfOk, IfErr, IsErrOf, MatchResult};
 ghost use Rattle.block_device.specs.Prelude.{IsSound, Rose};
 ghost use Rattle.object_model.specs.declared.command.Command.TheVariants as command;
-ghost use Rattle.read_facts.specs.Prelude.{IsKnownRead};
 ghost use Rattle.script_text.specs.Prelude.{FitsWhat, is_wait};
 ghost use Rattle.script_text.specs.declared.line.What.TheVariants as what;
 ghost use Rattle.client_runs.specs.Running.{command_sum};
@@ -12,7 +11,7 @@ ghost use Rattle.client_runs.specs.Standing.{IsNoted, IsNotNoted, IsNotTurnedAwa
 use crate::clients::Clients;
 use crate::run_fail::RunFail;
 use block_device::Device;
-use object_model::{Command, Transaction};
+use object_model::{Command, Read, Transaction};
 use script_text::{Line, Said, What};
 use std::alloc::Global;
 use store_kernel::{Kernel, Refused, Unanswered};
@@ -81,14 +80,13 @@ fn ask_read<D: Device>(
     kernel: &mut Kernel<D>,
     client: u32,
     line: u32,
-    read: Command,
+    read: Read,
 ) -> Result<(), RunFail>
     requires up { kernel.old.state.down ≡ None }
-    requires known { IsKnownRead read }
     requires room { length kernel.old.state.book.entries < 1048576 }
     ensures made { MatchResult result
-        (λ _. IsMade client line read false kernel.old.state (D.disk kernel.old.device) kernel.new.state (D.disk kernel.new.device))
-        (λ e. IsUnmade e client line read kernel.old.state (D.disk kernel.old.device) kernel.new.state (D.disk kernel.new.device)) }
+        (λ _. IsMade client line (command.Read read) false kernel.old.state (D.disk kernel.old.device) kernel.new.state (D.disk kernel.new.device))
+        (λ e. IsUnmade e client line (command.Read read) kernel.old.state (D.disk kernel.old.device) kernel.new.state (D.disk kernel.new.device)) }
     ensures sound { IsSound (D.disk kernel.new.device) }
     ensures later { D.faults kernel.old.device ≤ D.faults kernel.new.device }
     ensures cause { IsErrOf result RunFail.DeviceRead → Rose (D.faults kernel.old.device) (D.faults kernel.new.device) }
@@ -120,7 +118,7 @@ fn make<D: Device>(
 {
     match command {
         Command::Change(txn) => submit(alloc, kernel, client, line, txn),
-        read => match ask_read(alloc, kernel, client, line, read) {
+        Command::Read(read) => match ask_read(alloc, kernel, client, line, read) {
             Ok(()) => Ok(false),
             Err(fail) => Err(fail),
         },

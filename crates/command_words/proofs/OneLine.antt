@@ -3,7 +3,7 @@ use Rattle.std.proofs.Common.{◌≡◌, ◌≢◌, ℕ, List, get_or, Option, S
 use Rattle.clap.specs.Words.{Row, Text, subcommand_of}
 use Rattle.command_words.specs.declared.command_line.CommandLine.{CommandLine}
 use Rattle.command_words.specs.declared.command_line.CommandLine.TheVariants.{Mkfs, Step, Dump, Fsck}
-use Rattle.command_words.specs.CommandLine.{HasText, HasTexts, Says, Spells}
+use Rattle.command_words.specs.CommandLine.{HasText, HasTexts, SaysCommandLine, Spells}
 use Rattle.command_words.specs.Table.{table}
 use Rattle.command_words.proofs.Found.{one_number}
 use Rattle.command_words.proofs.Says.{differ}
@@ -19,7 +19,7 @@ apart : {A : Type 0} (name a b : Text) (m n : ℕ) → get_or a 0 0 ≡ m → ge
 apart name a b m n at also other is same = differ a b 0 m n at also other (sym is ∙ same)
 
 module _ (name : Text) (rows : List Row) where
-  same_line : (a b : CommandLine) → Says name rows a → Says name rows b → a ≡ b
+  same_line : (a b : CommandLine) → SaysCommandLine name rows a → SaysCommandLine name rows b → a ≡ b
   same_line (Mkfs dev half units prefer) (Mkfs d h u p) s t =
       let devs = one_text (codes "DEV") rows dev d s.1 t.1 in
       let halves = one_number (codes "half") rows half h s.2 t.2 in
@@ -50,4 +50,4 @@ pub one_line : (words : List Text) (a b : CommandLine) → Spells words a → Sp
 one_line words a b s t =
     let two : Some (t.name, t.rows) ≡ Some (s.name, s.rows) = sym t.found ∙ s.found in
     let same : (t.name, t.rows) ≡ (s.name, s.rows) = cc in
-    same_line s.name s.rows a b s.says (subst (λ (p : Text × List Row). Says p.0 p.1 b) same t.says)
+    same_line s.name s.rows a b s.says (subst (λ (p : Text × List Row). SaysCommandLine p.0 p.1 b) same t.says)

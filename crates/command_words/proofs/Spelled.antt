@@ -24,7 +24,7 @@ use Rattle.clap.specs.declared.builder.value_parser.ValueParser.{ValueParser}
 use Rattle.clap.specs.declared.builder.value_parser.ValueParser.TheVariants as vp
 use Rattle.command_words.specs.declared.command_line.CommandLine.{CommandLine}
 use Rattle.command_words.specs.declared.command_line.CommandLine.TheVariants.{Mkfs, Step as StepLine, Dump, Fsck}
-use Rattle.command_words.specs.CommandLine.{IsFileName, AreFileNames, IsInRange, Writes, Says, Spells, AreTaken, IsSaid}
+use Rattle.command_words.specs.CommandLine.{IsFileName, AreFileNames, IsInRange, Writes, SaysCommandLine, Spells, TableTakes, IsSaid}
 use Rattle.command_words.specs.Spelling.{spelling, IsPlain, HasPlainNames}
 use Rattle.command_words.specs.Table.{table, mkfs, step, dump, fsck}
 
@@ -171,7 +171,7 @@ rows_are s words v walks = ap (λ (w : Walk). finished s.rules w.held) walks.wal
 -- what the words of a command come to
 record Ends (s : Shape) (words : List Text) (line : CommandLine) : Type 0 where
   clean : level_fault s [] nothing_held words false [] ≡ []
-  says : Says s.name (rows_after s.rules [] words) line
+  says : SaysCommandLine s.name (rows_after s.rules [] words) line
 
 dump_ends : (dev : Text) → IsFileName dev → IsPlain dev → Ends (built_leaf dump.top) (dev ∷ []) (Dump dev)
 unfolding clap_on_literals
@@ -181,7 +181,7 @@ dump_ends dev named plain =
     let walks : Walks s start (dev ∷ []) v = turn_then s start v v dev [] (value_turns s nothing_held idle 1 dev plain refl) (at_end s v) in
     record {
       clean = level_clean s (dev ∷ []) v walks (name_ok dev named) refl;
-      says = subst (λ (rows : List Row). Says s.name rows (Dump dev)) (sym (rows_are s (dev ∷ []) v walks)) (refl, refl);
+      says = subst (λ (rows : List Row). SaysCommandLine s.name rows (Dump dev)) (sym (rows_are s (dev ∷ []) v walks)) (refl, refl);
     }
 
 fsck_ends : (dev : Text) → IsFileName dev → IsPlain dev → Ends (built_leaf fsck.top) (dev ∷ []) (Fsck dev)
@@ -192,7 +192,7 @@ fsck_ends dev named plain =
     let walks : Walks s start (dev ∷ []) v = turn_then s start v v dev [] (value_turns s nothing_held idle 1 dev plain refl) (at_end s v) in
     record {
       clean = level_clean s (dev ∷ []) v walks (name_ok dev named) refl;
-      says = subst (λ (rows : List Row). Says s.name rows (Fsck dev)) (sym (rows_are s (dev ∷ []) v walks)) (refl, refl);
+      says = subst (λ (rows : List Row). SaysCommandLine s.name rows (Fsck dev)) (sym (rows_are s (dev ∷ []) v walks)) (refl, refl);
     }
 
 mkfs_ends : (dev : Text) (half units prefer : ℕ) → IsInRange (Mkfs dev half units prefer) → IsPlain dev
@@ -225,7 +225,7 @@ mkfs_ends dev half units prefer range plain =
     (at_end s w7))))))) in
     record {
       clean = level_clean s words w7 walks prefer_ok refl;
-      says = subst (λ (rows : List Row). Says s.name rows (Mkfs dev half units prefer)) (sym (rows_are s words w7 walks))
+      says = subst (λ (rows : List Row). SaysCommandLine s.name rows (Mkfs dev half units prefer)) (sym (rows_are s words w7 walks))
           (refl, refl, writes half small_half, writes units small_units, writes prefer small_prefer);
     }
 
@@ -289,7 +289,7 @@ step_ends dev seed (t ∷ ts) range plain =
     (scripts_walk rows (t ∷ []) ts plain.1.1)))) in
     record {
       clean = level_clean s words w5 walks (both_none _ _ (few_ok (length (t ∷ ts)) range.2.0 range.2.1) (names_ok (t ∷ ts) range.2.2)) refl;
-      says = subst (λ (rows : List Row). Says s.name rows (StepLine dev seed (t ∷ ts))) (sym (rows_are s words w5 walks))
+      says = subst (λ (rows : List Row). SaysCommandLine s.name rows (StepLine dev seed (t ∷ ts))) (sym (rows_are s words w5 walks))
           (refl, refl, writes seed small, refl);
     }
 
@@ -314,7 +314,7 @@ top_level rest name leaf line program range turned clean found ends =
     let enters : entered app (Some (name, rest)) ≡ Some (rows_at leaf rest) = ap (option_map (λ s. rows_at s rest)) found in
     let later : Walk → Kinds = λ w. or_else (entered_fault app w.stopped) (or_else (settle_fault app.top.rules app.top.args_override_self w.held)
     (or_else (defaults_fault (settled app.top.rules w.held).rows app.top.rules) (check_fault app.top (finished app.top.rules w.held) (is_some (entered app w.stopped))))) in
-    let taken : AreTaken (program ∷ name ∷ rest) =
+    let taken : TableTakes (program ∷ name ∷ rest) =
     both_none _ _ fault (ap later walks ∙ both_none (entered_fault app (Some (name, rest))) _ below
     (ap (λ (o : Option (Text × List Row)). check_fault app.top [] (is_some o)) enters)) in
     record {

@@ -30,7 +30,7 @@ use Rattle.clap.proofs.ValueTestLemmas.{accepts-Accepts}
 use Rattle.clap.proofs.OnLiterals.{clap_on_literals}
 use Rattle.command_words.specs.declared.command_line.CommandLine.{CommandLine}
 use Rattle.command_words.specs.declared.command_line.CommandLine.TheVariants.{Mkfs, Step as StepLine, Dump, Fsck}
-use Rattle.command_words.specs.CommandLine.{IsFileName, AreFileNames, IsInRange, HasText, HasTexts, HasNumber, Writes, Says, Spells, AreTaken, IsSaid, IsFound}
+use Rattle.command_words.specs.CommandLine.{IsFileName, AreFileNames, IsInRange, HasText, HasTexts, HasNumber, Writes, SaysCommandLine, Spells, TableTakes, IsSaid, IsLineFound}
 use Rattle.command_words.specs.Table.{table, mkfs, step, dump, fsck}
 use Rattle.command_words.proofs.Walks.{Among, all_in, among_in, find_in, none_first, none_next, Fits, AreGood, IsKnown, AreKnown, walk_good, settle_good, defaults_good, put}
 use Rattle.command_words.proofs.Taken.{spelled}
@@ -473,7 +473,7 @@ either_true false is = is
 -- one of the four commands was entered
 said_by : (p : Text × List Text) (o : Option Shape) → find (λ s. answers_to p.0 (label_of s)) app.subs ≡ o → is_some (option_map (λ s. rows_at s p.1) o) ≡ true
     → option_map_or (λ s. level_fault s [] nothing_held p.1 false []) o [] ≡ [] → bytes_eq p.0 (codes "help") ≡ false
-    → (line : CommandLine) × IsFound (option_map (λ s. rows_at s p.1) o) line
+    → (line : CommandLine) × IsLineFound (option_map (λ s. rows_at s p.1) o) line
 said_by p None is entered none well = absurd cc
 said_by p (Some s) is entered none well =
     let here = find_in (λ (s : Shape). answers_to p.0 (label_of s)) app.subs s is in
@@ -489,11 +489,11 @@ said_by p (Some s) is entered none well =
     ]
 
 found_by : (o : Option (Text × List Text)) → is_some (entered app o) ≡ true → entered_fault app o ≡ [] → StopsWell app.top refl o
-    → (line : CommandLine) × IsFound (entered app o) line
+    → (line : CommandLine) × IsLineFound (entered app o) line
 found_by None is none well = absurd cc
 found_by (Some p) is none well = said_by p (find (λ s. answers_to p.0 (label_of s)) app.subs) refl is none well
 
-pub taken_spells : (words : List Text) → AreTaken words → (line : CommandLine) × Spells words line
+pub taken_spells : (words : List Text) → TableTakes words → (line : CommandLine) × Spells words line
 taken_spells words taken =
     let args : List Text = drop 1 words in
     let end : Walk = walk app.top.rules (names_of app) nothing_held args in

@@ -51,28 +51,28 @@ abbrev pub HasNumber : Text → List Row → ℕ → Type 0
 HasNumber id rows n = IsSomeAnd (one_of id rows) (Writes n)
 
 -- the command of this name, with these values of its arguments, is a command line
-abbrev pub Says : Text → List Row → CommandLine → Type 0
-Says name rows (Mkfs dev half units prefer) = (name ≡ codes "mkfs") × HasText (codes "DEV") rows dev × HasNumber (codes "half") rows half
+abbrev pub SaysCommandLine : Text → List Row → CommandLine → Type 0
+SaysCommandLine name rows (Mkfs dev half units prefer) = (name ≡ codes "mkfs") × HasText (codes "DEV") rows dev × HasNumber (codes "half") rows half
     × HasNumber (codes "units") rows units × HasNumber (codes "prefer") rows prefer
-Says name rows (Step dev seed scripts) = (name ≡ codes "step") × HasText (codes "DEV") rows dev × HasNumber (codes "seed") rows seed
+SaysCommandLine name rows (Step dev seed scripts) = (name ≡ codes "step") × HasText (codes "DEV") rows dev × HasNumber (codes "seed") rows seed
     × HasTexts (codes "SCRIPT") rows scripts
-Says name rows (Dump dev) = (name ≡ codes "dump") × HasText (codes "DEV") rows dev
-Says name rows (Fsck dev) = (name ≡ codes "fsck") × HasText (codes "DEV") rows dev
+SaysCommandLine name rows (Dump dev) = (name ≡ codes "dump") × HasText (codes "DEV") rows dev
+SaysCommandLine name rows (Fsck dev) = (name ≡ codes "fsck") × HasText (codes "DEV") rows dev
 
 -- ---- command lines
 
 -- The table takes the words: a parse finds nothing wrong with them.
-abbrev pub AreTaken : List (List ℕ) → Type 0
-AreTaken words = fault_of table words ≡ []
+abbrev pub TableTakes : List (List ℕ) → Type 0
+TableTakes words = fault_of table words ≡ []
 
 -- the words spell this command line
 pub record Spells (words : List (List ℕ)) (line : CommandLine) : Type 0 where
   pub in_range : IsInRange line
-  pub taken : AreTaken words
+  pub taken : TableTakes words
   pub name : Text
   pub rows : List Row
   pub found : subcommand_of table words ≡ Some (name, rows)
-  pub says : Says name rows line
+  pub says : SaysCommandLine name rows line
 
 -- the words spell none
 abbrev pub IsNoCommandLine : List (List ℕ) → Type 0
@@ -85,17 +85,17 @@ IsWhyNot words (none.Told text) = IsNoCommandLine words
 
 -- the command of this name says a command line that is in range, by the values that were found; or none
 abbrev pub IsSaid : Text → List Row → CommandLine → Type 0
-IsSaid name rows line = IsInRange line × Says name rows line
+IsSaid name rows line = IsInRange line × SaysCommandLine name rows line
 
 abbrev pub IsNotSaid : Text → List Row → Type 0
 IsNotSaid name rows = (line : CommandLine) → ¬ IsSaid name rows line
 
 -- so it is of what a parse found
-abbrev pub IsFound : Option (Text × List Row) → CommandLine → Type 0
-IsFound found line = IsSomeAnd found (λ p. IsSaid p.0 p.1 line)
+abbrev pub IsLineFound : Option (Text × List Row) → CommandLine → Type 0
+IsLineFound found line = IsSomeAnd found (λ p. IsSaid p.0 p.1 line)
 
 abbrev pub IsNotFound : Option (Text × List Row) → Type 0
-IsNotFound found = (line : CommandLine) → ¬ IsFound found line
+IsNotFound found = (line : CommandLine) → ¬ IsLineFound found line
 
 -- what is told of an error: that memory ran out, or the text of another one
 abbrev pub IsWhyFor : Error → NoLine → Type 0

@@ -2,7 +2,7 @@
 ghost use Rattle.std.specs.Prelude.{◌≡◌, ◌≤◌, ◌<◌, ◌^◌, ℕ, List, Some, None, map, MatchOption, MatchResult, codes};
 ghost use Rattle.clap.specs.Words.{found_of, rows_of, subcommand_of, subcommand_rows_of};
 ghost use Rattle.command_words.specs.Table.{table};
-ghost use Rattle.command_words.specs.CommandLine.{words_of, IsFileName, AreFileNames, IsInRange, HasText, HasTexts, HasNumber, Says, Spells, AreTaken, IsWhyNot, IsWhyFor, IsNotSaid, IsSaid, IsNotFound, IsFound};
+ghost use Rattle.command_words.specs.CommandLine.{words_of, IsFileName, AreFileNames, IsInRange, HasText, HasTexts, HasNumber, SaysCommandLine, Spells, TableTakes, IsWhyNot, IsWhyFor, IsNotSaid, IsSaid, IsNotFound, IsLineFound};
 
 use crate::file_names::{FileName, FileNames, read_file_name, read_file_names};
 use crate::no_line::NoLine;
@@ -165,7 +165,7 @@ fn entered<'m, 'a>(matches: &'m ArgMatches<'a>) -> Option<(&'a str, &'m ArgMatch
 
 /// The command line that was found.
 fn line_of<'a>(matches: &ArgMatches<'a>) -> Option<CommandLine<'a>>
-    ensures { MatchOption result (IsNotFound (subcommand_rows_of matches.now)) (IsFound (subcommand_rows_of matches.now)) }
+    ensures { MatchOption result (IsNotFound (subcommand_rows_of matches.now)) (IsLineFound (subcommand_rows_of matches.now)) }
 {
     let (name, found) = entered(matches)?;
     read_command(name, found)
@@ -186,7 +186,7 @@ fn why_not(alloc: Global, error: clap::Error) -> NoLine
 
 /// What `clap` finds in the words.
 fn matches_of<'a>(alloc: Global, words: &'a Vec<String>) -> Result<ArgMatches<'a>, NoLine>
-    ensures { MatchResult result (λ m. AreTaken (words_of words.now) × (subcommand_rows_of m ≡ subcommand_of table (words_of words.now)))
+    ensures { MatchResult result (λ m. TableTakes (words_of words.now) × (subcommand_rows_of m ≡ subcommand_of table (words_of words.now)))
         (IsWhyNot (words_of words.now)) }
 {
     let command = table::commands(alloc)?;

@@ -1,12 +1,12 @@
 //! What the definitions come to.
 ghost use Rattle.std.specs.Prelude.{◌≡◌, ◌∷◌, List, ℕ};
-ghost use Rattle.command_words.specs.CommandLine.{AreTaken, IsInRange, Spells};
+ghost use Rattle.command_words.specs.CommandLine.{TableTakes, IsInRange, Spells};
 ghost use Rattle.command_words.specs.Spelling.{spelling, HasPlainNames};
 ghost use Rattle.command_words.specs.declared.command_line.CommandLine.{CommandLine};
 
 /// Words that the table takes spell a command line.
 pub fn taken_words_spell_a_line()
-    ensures { (words : List (List ℕ)) → AreTaken words → (line : CommandLine) × Spells words line }
+    ensures { (words : List (List ℕ)) → TableTakes words → (line : CommandLine) × Spells words line }
 {}
 
 /// Words spell one command line at most.

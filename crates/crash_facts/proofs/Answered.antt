@@ -6,17 +6,18 @@ use Rattle.std.specs.Option.{option_map_or}
 use Rattle.std.specs.FinMap as finite
 use Rattle.byte_maps.specs.ByteMap.{ByteMap}
 use Rattle.block_device.specs.Prelude.{Disk, History}
-use Rattle.object_model.specs.Prelude.{Object, Collection, Objects, Change, replay, object_limit, answer_from, found_collection, found_object, value_of, reply_of, accepted, AnswersFrom, IsLegal}
+use Rattle.object_model.specs.Prelude.{Object, Collection, Objects, Change, replay, object_limit, answer_from, found_collection, found_object, value_of, read_reply, accepted, AnswersFrom, IsLegal}
 use Rattle.object_model.specs.Book.{IsAnswered as IsRight}
 use Rattle.object_model.specs.declared.book.Entry.{Entry}
 use Rattle.object_model.specs.declared.op.Refusal.{Refusal}
 use Rattle.object_model.specs.declared.op.Refusal.TheVariants.{NoAttr, BadRange}
-use Rattle.object_model.specs.declared.command.Command.{Command}
 use Rattle.object_model.specs.declared.command.Command.TheVariants as ask
+use Rattle.object_model.specs.declared.command.Read.{Read}
+use Rattle.object_model.specs.declared.command.Read.TheVariants as reads
 use Rattle.object_model.specs.declared.command.Answer.{Answer}
 use Rattle.object_model.specs.declared.command.Answer.TheVariants as answer
 use Rattle.meta_log.specs.Prelude.{width_of}
-use Rattle.read_facts.specs.Prelude.{HasReadNames, IsNoCsum, AnswersAlikeFrom, IsLegalButBytes}
+use Rattle.read_facts.specs.Prelude.{IsNoCsum, AnswersAlikeFrom, IsLegalButBytes}
 use Rattle.read_facts.proofs.Seen.{seen_answer}
 use Rattle.store_steps.specs.Prelude.{State, IsCause, Call, submitting, reading, stepping, AnswersRead, Reads, Submits, Calls, memory_of}
 use Rattle.run_facts.specs.Prelude.{IsKept}
@@ -57,18 +58,17 @@ value_no_csum : (m : ByteMap (List ℕ)) (name : List ℕ) → IsNoCsum (value_o
 value_no_csum m name = elim (finite.get m name) as (λ x. IsNoCsum (option_map_or (λ v. answer.Bytes v) x (answer.Refused NoAttr))) [ None ↦ tt | Some v ↦ tt ]
 
 -- so the answer to a read doesn't
-reply_no_csum : (command : Command) (objects : Objects) → HasReadNames command → IsNoCsum (reply_of command objects)
-reply_no_csum (ask.Read c o off len) objects names =
+reply_no_csum : (read : Read) (objects : Objects) → IsNoCsum (read_reply read objects)
+reply_no_csum (reads.Bytes c o off len) objects =
     found_no_csum (found_object objects c o)
     (λ (b : Object). cond (nat_lt object_limit (off + len)) (answer.Refused BadRange) (answer.Bytes (take len (drop off b.bytes))))
     (λ (b : Object). range_no_csum (nat_lt object_limit (off + len)) (take len (drop off b.bytes)))
-reply_no_csum (ask.Sum c o) objects names = found_no_csum (found_object objects c o) _ (λ (b : Object). tt)
-reply_no_csum (ask.Stat c o) objects names = found_no_csum (found_object objects c o) _ (λ (b : Object). tt)
-reply_no_csum (ask.GetAttr c o name) objects names = found_no_csum (found_object objects c o) _ (λ (b : Object). value_no_csum b.attrs name)
-reply_no_csum (ask.OmapGet c o key) objects names = found_no_csum (found_object objects c o) _ (λ (b : Object). value_no_csum b.omap key)
-reply_no_csum (ask.OmapHeader c o) objects names = found_no_csum (found_object objects c o) _ (λ (b : Object). tt)
-reply_no_csum (ask.List c) objects names = found_no_csum (found_collection objects c) _ (λ (found : Collection). tt)
-reply_no_csum command objects names = absurd names
+reply_no_csum (reads.Sum c o) objects = found_no_csum (found_object objects c o) _ (λ (b : Object). tt)
+reply_no_csum (reads.Stat c o) objects = found_no_csum (found_object objects c o) _ (λ (b : Object). tt)
+reply_no_csum (reads.GetAttr c o name) objects = found_no_csum (found_object objects c o) _ (λ (b : Object). value_no_csum b.attrs name)
+reply_no_csum (reads.OmapGet c o key) objects = found_no_csum (found_object objects c o) _ (λ (b : Object). value_no_csum b.omap key)
+reply_no_csum (reads.OmapHeader c o) objects = found_no_csum (found_object objects c o) _ (λ (b : Object). tt)
+reply_no_csum (reads.List c) objects = found_no_csum (found_collection objects c) _ (λ (found : Collection). tt)
 
 -- ---- a transaction
 
@@ -107,24 +107,24 @@ submit_answers base opening client line change s d s' kept durable are book (inr
 -- ---- a read
 
 -- gives what plain objects have, whatever is under way
-read_is_plain : (base : ℕ) (opening : Objects) (client line : ℕ) (command : Command) (a : Answer) (s s' : State) (d : Disk) (h : History) → IsKept s d
-    → KnownOfStore base opening s d h → AnswersRead client line command a s d s' → a ≡ reply_of command (replay opening (accepted s.book.entries))
-read_is_plain base opening client line command a s s' d h kept known is =
+read_is_plain : (base : ℕ) (opening : Objects) (client line : ℕ) (read : Read) (a : Answer) (s s' : State) (d : Disk) (h : History) → IsKept s d
+    → KnownOfStore base opening s d h → AnswersRead client line read a s d s' → a ≡ read_reply read (replay opening (accepted s.book.entries))
+read_is_plain base opening client line read a s s' d h kept known is =
     let up : s.down ≡ None = is.can_note.up in
     seen_answer (width_of s.log.sup) (memory_of s) d h known.units.told s.submitted (unread_good base opening s d h kept up known) (seen_at s h)
-    (λ unit. refl) (replay opening (accepted s.book.entries)) (submitted_stand base opening s d h kept up known) command a is.names is.given
+    (λ unit. refl) (replay opening (accepted s.book.entries)) (submitted_stand base opening s d h kept up known) read a is.names is.given
 
 -- what a read leaves
-read_answers : (base : ℕ) (opening : Objects) (client line : ℕ) (command : Command) (s s' : State) (d : Disk) → IsKept s d
-    → IsDurable base opening s d → AreAnswered opening s.book.entries → Reads client line command s d s' → AreAnswered opening s'.book.entries
-read_answers base opening client line command s s' d kept durable are (inl (a, is)) =
+read_answers : (base : ℕ) (opening : Objects) (client line : ℕ) (read : Read) (s s' : State) (d : Disk) → IsKept s d
+    → IsDurable base opening s d → AreAnswered opening s.book.entries → Reads client line read s d s' → AreAnswered opening s'.book.entries
+read_answers base opening client line read s s' d kept durable are (inl (a, is)) =
     let objects : Objects = replay opening (accepted s.book.entries) in
-    let e : Entry = record { client = client; line = line; command = command; answer = a; acks = s.acked } in
-    let plain : a ≡ reply_of command objects =
-    read_is_plain base opening client line command a s s' d durable.history kept (durable.up is.can_note.up) is in
+    let e : Entry = record { client = client; line = line; command = ask.Read read; answer = a; acks = s.acked } in
+    let plain : a ≡ read_reply read objects =
+    read_is_plain base opening client line read a s s' d durable.history kept (durable.up is.can_note.up) is in
     subst (λ (t : State). AreAnswered opening t.book.entries) (sym is.after)
-    (answered_push opening s.book.entries e are (inl plain) (subst IsNoCsum (sym plain) (reply_no_csum command objects is.names)))
-read_answers base opening client line command s s' d kept durable are (inr turned) =
+    (answered_push opening s.book.entries e are (inl plain) (subst IsNoCsum (sym plain) (reply_no_csum read objects)))
+read_answers base opening client line read s s' d kept durable are (inr turned) =
     subst (λ (t : State). AreAnswered opening t.book.entries) (sym turned.same) are
 
 -- ---- each call
@@ -138,7 +138,7 @@ call_answers base opening call s s' d d' kept durable book' made = of_call call 
 
     of_call : (c : Call) → Calls c s d s' d' → AreAnswered opening s'.book.entries
     of_call (submitting client line change) does = submit_answers base opening client line change s d s' kept durable are book' does.1
-    of_call (reading client line command) does = read_answers base opening client line command s s' d kept durable are does.1
+    of_call (reading client line read) does = read_answers base opening client line read s s' d kept durable are does.0
     of_call (stepping step) does = subst (AreAnswered opening) (sym (step_room s d s' d' step kept does.0 does.1).entries) are
 
 -- ---- the book of a durable store

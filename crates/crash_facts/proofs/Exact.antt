@@ -12,7 +12,7 @@ use Rattle.meta_rows.specs.Prelude.{Rows, rows_after}
 use Rattle.meta_log.specs.Prelude.{width_of}
 use Rattle.store_image.specs.Prelude.{IsLeaked, IsExactBut, IsExactAs, IsLeakedIn}
 use Rattle.store_image.proofs.Prelude.{renamed, is_left_out}
-use Rattle.store_steps.specs.Prelude.{Intent, intents, is_in, rows_by, uncommitted, begun_ops, RowsPart, rows_part, Touch, after, run_write, RowsGo, joins, reorders, joined, Footprint, Batch, State, batch_ops}
+use Rattle.store_steps.specs.Prelude.{Intent, intents, is_in, rows_by, uncommitted, begun_ops, RowsPart, rows_part, Touch, after, run_write, RowsGo, joins, reorders, with_accepted, Footprint, Batch, State, batch_ops}
 use Rattle.store_steps.specs.Touch as touch
 use Rattle.store_steps.specs.RowsGo.{same, applies, switches}
 use Rattle.run_facts.specs.Prelude.{IsKept, AreRowsKept}
@@ -116,7 +116,7 @@ touched_contents base h (touch.on_slot ticket unit bytes) reached = same_content
 abbrev AreExact : (ℕ → Type 0) → RowsPart → Type 0
 AreExact leaked p = SelectionsAreExact (width_of p.sup) leaked p.rows p.intents
 
-part_exact : (leaked : ℕ → Type 0) (p q : RowsPart) → RowsGo p q → ((x : Intent) → q ≡ joined x p → AreExact leaked q) → AreExact leaked p
+part_exact : (leaked : ℕ → Type 0) (p q : RowsPart) → RowsGo p q → ((x : Intent) → q ≡ with_accepted x p → AreExact leaked q) → AreExact leaked p
     → AreExact leaked q
 part_exact leaked p q (same is) one every = subst (AreExact leaked) (sym is) every
 part_exact leaked p q (joins x is) one every = one x is

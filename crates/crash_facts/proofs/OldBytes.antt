@@ -13,7 +13,7 @@ use Rattle.read_facts.specs.Prelude.{IsHeldAt, IsFound, AreGoodPlaces, IsFirstBa
 use Rattle.read_facts.proofs.Places.{good_is_found}
 use Rattle.read_facts.proofs.Seen.{found_is, place_not_bad}
 use Rattle.plan_rows.specs.declared.plan.ReadUnit.{ReadUnit}
-use Rattle.plan_drafts.specs.Prelude.{own_units, places_of, AsksFor}
+use Rattle.plan_drafts.specs.Prelude.{units_read, places_of, AsksFor}
 use Rattle.plan_drafts.proofs.Reading.{IsPageOf, asked_places, units_have_pages, plan_read}
 use Rattle.store_steps.specs.Prelude.{State, intents, uncommitted, memory_of, MeetsBadUnit, AcceptsOne}
 use Rattle.run_facts.specs.Prelude.{IsKept}
@@ -25,21 +25,21 @@ use Rattle.crash_facts.proofs.Submitted.{seen_at, held_is_seen, submitted_stand,
 
 -- a page stands on each unit whose old bytes a transaction asks for
 pub asked_units : (w : Width) (change : Change) (rows : Rows) (need : ℕ) (places : List Place) → AsksFor w change rows need places
-    → AllByRecursion (HasPage w rows) (flat_map own_units places)
+    → AllByRecursion (HasPage w rows) (flat_map units_read places)
 asked_units w change rows need places asks = units_have_pages w rows places (asked_places w change rows need places asks)
 
 -- ---- what is read of them
 
 -- what was read of good places is what their units are found to hold
 each_found : (memory : ℕ → Option (List ℕ)) (held : ℕ → List ℕ → Type 0) (places : List Place) (read : List ReadUnit)
-    → map (λ r. r.unit) read ≡ flat_map own_units places → AreGoodPlaces memory held places (map (λ r. r.bytes) read)
+    → map (λ r. r.unit) read ≡ flat_map units_read places → AreGoodPlaces memory held places (map (λ r. r.bytes) read)
     → AllByRecursion (λ r. IsFound memory held r.unit r.bytes) read
 each_found memory held [] [] units good = tt
 each_found memory held [] (r ∷ read) units good = absurd good
 each_found memory held (own unit csum ∷ places) [] units good = absurd good
 each_found memory held (own unit csum ∷ places) (r ∷ read) units good =
     let first : r.unit ≡ unit = cc in
-    let rest : map (λ (q : ReadUnit). q.unit) read ≡ flat_map own_units places = cc in (
+    let rest : map (λ (q : ReadUnit). q.unit) read ≡ flat_map units_read places = cc in (
       subst (λ (u : ℕ). IsFound memory held u r.bytes) (sym first) (good_is_found memory held unit csum r.bytes good.0),
       each_found memory held places read rest good.1,
     )

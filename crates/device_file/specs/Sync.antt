@@ -7,8 +7,8 @@ use Rattle.device_file.specs.declared.sync.Pending.{Pending}
 use Rattle.device_file.specs.declared.sync.SyncFile.TheInside.{Inside}
 
 -- what is seen of a submission that waits to be reaped
-abbrev pub flight : Pending → Flight
-flight p = record { ticket = p.ticket; first = p.first; bytes = p.bytes }
+abbrev pub flight_seen : Pending → Flight
+flight_seen p = record { ticket = p.ticket; first = p.first; bytes = p.bytes }
 
 -- the tickets ascend, all below the next one
 abbrev pub PendingAscend : ℕ → List Pending → Type 0
@@ -17,7 +17,7 @@ PendingAscend next (p ∷ ps) = (p.ticket < next) × All (λ q. p.ticket < q.tic
 
 -- what is seen of the fields
 abbrev pub file_disk : Inside → FileDisk
-file_disk f = record { disk = silent f.units (map flight f.pending.items); faults = f.fault_count }
+file_disk f = record { disk = silent f.units (map flight_seen f.pending.items); faults = f.fault_count }
 
 -- what the fields keep
 pub record IsSyncKept (f : Inside) : Type 0 where

@@ -18,8 +18,8 @@ pub record MemoryText : Type 0 where
   pub faults : ℕ
 
 -- how many bytes a read of it takes
-abbrev pub taken : MemoryText → ℕ → ℕ
-taken s most = min (min (length s.left) most) s.step
+abbrev pub size_taken : MemoryText → ℕ → ℕ
+size_taken s most = min (min (length s.left) most) s.step
 
 -- after a read that went well
 abbrev pub after_take : MemoryText → ℕ → MemoryText
@@ -43,8 +43,8 @@ abbrev pub room_for : MemoryOutput → ℕ → ℕ
 room_for s size = min (min size (s.room - length s.text)) s.step
 
 -- it fails at a listed call, and where there is no room for the first byte of a piece
-abbrev pub Refuses : MemoryOutput → List ℕ → Type 0
-Refuses s piece = Contains s.fails s.calls ⊎ ((0 < length piece) × (s.room ≤ length s.text))
+abbrev pub OutputRefuses : MemoryOutput → List ℕ → Type 0
+OutputRefuses s piece = Contains s.fails s.calls ⊎ ((0 < length piece) × (s.room ≤ length s.text))
 
 abbrev pub after_put : MemoryOutput → List ℕ → MemoryOutput
 after_put s bytes = record s { text = s.text ++ bytes; calls = counted s.calls }
@@ -96,16 +96,16 @@ same_call Script Device = false
 same_call Script Script = true
 
 -- the call of this kind and number is listed to fail
-abbrev pub is_listed : List (Call × ℕ) → Call → ℕ → Bool
-is_listed fails call number = list_any (λ f. same_call f.0 call && (f.1 == number)) fails
+abbrev pub is_call_listed : List (Call × ℕ) → Call → ℕ → Bool
+is_call_listed fails call number = list_any (λ f. same_call f.0 call && (f.1 == number)) fails
 
 -- a device is refused where its call is listed, and where there is nothing to start it with
 abbrev pub RefusesDevice : MemoryShelf → List ℕ → How → Type 0
-RefusesDevice s name how = (is_listed s.fails Device s.device_calls ≡ true) ⊎ (start_of s.names name how ≡ None)
+RefusesDevice s name how = (is_call_listed s.fails Device s.device_calls ≡ true) ⊎ (start_of s.names name how ≡ None)
 
 -- a script is refused where its call is listed, and where there is no text under the name
 abbrev pub RefusesScript : MemoryShelf → List ℕ → Type 0
-RefusesScript s name = (is_listed s.fails Script s.script_calls ≡ true) ⊎ (map.get s.names.texts name ≡ None)
+RefusesScript s name = (is_call_listed s.fails Script s.script_calls ≡ true) ⊎ (map.get s.names.texts name ≡ None)
 
 -- the device starts with these contents, and has the bay's lists
 abbrev pub IsStarted : MemoryShelf → Option (List ℕ) → MemoryDisk → Type 0

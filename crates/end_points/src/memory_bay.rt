@@ -3,7 +3,7 @@ ghost use Rattle.std.specs.Prelude.{◌≡◌, ◌↔◌, ◌+◌, ◌-◌, ◌*
 ghost use Rattle.std.specs.FinMap as map;
 ghost use Rattle.block_device.specs.Prelude.{Rose, disk_of, counted};
 ghost use Rattle.end_points.specs.Bay.{HandedOut, Opened, IsFewUnits, cut_or_filled, start_from, start_of};
-ghost use Rattle.end_points.specs.Memory.{view_of, is_listed, RefusesDevice, RefusesScript, IsStarted, IsOpened, AreContents, with_device, with_text, after_device, after_refused_device, after_script, after_refused_script};
+ghost use Rattle.end_points.specs.Memory.{view_of, is_call_listed, RefusesDevice, RefusesScript, IsStarted, IsOpened, AreContents, with_device, with_text, after_device, after_refused_device, after_script, after_refused_script};
 
 use crate::{Bay, How, MemorySource};
 use block_device::{Failed, Kind, MemoryDevice};
@@ -66,7 +66,7 @@ impl Model for MemoryBay {
 
 // Whether a call is listed to fail.
 fn fails_at(fails: &[(Call, u64)], call: Call, number: u64) -> bool
-    ensures { result ≡ is_listed fails.now call number }
+    ensures { result ≡ is_call_listed fails.now call number }
 {
     fails.iter().any(|f| f.0 == call && f.1 == number)
 }

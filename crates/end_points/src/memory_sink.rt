@@ -2,7 +2,7 @@
 ghost use Rattle.std.specs.Prelude.{◌≡◌, ◌↔◌, [], ◌<◌, ◌≤◌, Some, IsErr, IfOk, OnOk, OnErr, length, take, ◌+◌, ◌++◌, vec_capacity};
 ghost use Rattle.block_device.specs.Prelude.{Rose};
 ghost use Rattle.end_points.specs.Sink.{Put};
-ghost use Rattle.end_points.specs.Memory.{room_for, Refuses, after_put, after_refusal};
+ghost use Rattle.end_points.specs.Memory.{room_for, OutputRefuses, after_put, after_refusal};
 
 use crate::memory_source::is_listed;
 use crate::{Fault, Sink};
@@ -84,7 +84,7 @@ impl Sink for MemorySink {
         ensures ok { IfOk result (λ n. Put (Some self.old.text) piece.now n (Some self.new.text)) }
         ensures exact { IfOk result (λ n. n ≡ room_for self.old (length piece.now)) }
         ensures after { IfOk result (λ n. self.new ≡ after_put self.old (take n piece.now)) }
-        ensures fails { IsErr result ↔ Refuses self.old piece.now }
+        ensures fails { IsErr result ↔ OutputRefuses self.old piece.now }
         ensures fault { OnErr result (self.new ≡ after_refusal self.old) }
         ensures err { OnErr result (self.new.text ≡ self.old.text) }
         ensures kept { OnOk result (self.new.faults ≡ self.old.faults) }

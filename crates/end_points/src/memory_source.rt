@@ -2,7 +2,7 @@
 ghost use Rattle.std.specs.Prelude.{◌≡◌, ◌↔◌, ◌+◌, ◌<◌, ◌≤◌, Some, IsTrue, IfOk, OnOk, OnErr, IsErrOf, Contains};
 ghost use Rattle.block_device.specs.Prelude.{Rose};
 ghost use Rattle.end_points.specs.Source.{Took};
-ghost use Rattle.end_points.specs.Memory.{taken, after_take, after_fault};
+ghost use Rattle.end_points.specs.Memory.{size_taken, after_take, after_fault};
 
 use crate::Source;
 use block_device::Failed;
@@ -63,7 +63,7 @@ impl Source for MemorySource {
 
     fn read(&mut self, into: &mut Vec<u8>, most: u32) -> Result<u32, Failed>
         ensures ok { IfOk result (λ n. Took (Some self.old.left) most n into.old.items into.new.items (Some self.new.left)) }
-        ensures exact { IfOk result (λ n. n ≡ taken self.old most) }
+        ensures exact { IfOk result (λ n. n ≡ size_taken self.old most) }
         ensures after { IfOk result (λ n. self.new ≡ after_take self.old n) }
         ensures fails { IsErrOf result Failed.Fault ↔ Contains self.old.fails self.old.calls }
         ensures fault { IsErrOf result Failed.Fault → self.new ≡ after_fault self.old }

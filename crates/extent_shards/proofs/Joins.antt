@@ -11,10 +11,10 @@ use Rattle.blob_map.specs.Prelude.{PageMap, extent_pages, with_pages, extents_of
 use Rattle.blob_map.proofs.Forms.{extents_places, extents_ascend}
 use Rattle.blob_map.proofs.Lay.{laid_append}
 use Rattle.blob_map.proofs.Places.{laid_alone}
-use Rattle.extent_shards.specs.Prelude.{shard_bytes, is_within, shards_from, shards_of, IsBounded, joined_extents, joined}
+use Rattle.extent_shards.specs.Prelude.{shard_bytes, is_within, shards_from, shards_of, IsBounded, joined_extents, joined_map}
 
 pub join_one_more : (shards : List (List Extent)) (shard : List Extent)
-    → joined (shards ++ shard ∷ []) ≡ with_pages (joined shards) (flat_map extent_pages shard)
+    → joined_map (shards ++ shard ∷ []) ≡ with_pages (joined_map shards) (flat_map extent_pages shard)
 join_one_more shards shard =
     let all : joined_extents (shards ++ shard ∷ []) ≡ joined_extents shards ++ shard =
     flat_map-append (λ es. es) shards (shard ∷ []) ∙ ap (λ l. joined_extents shards ++ l) (append-nil shard) in
@@ -44,7 +44,7 @@ module _ (w : Width) (bound : Option ℕ) where
   shards_back [] = refl
   shards_back (e ∷ es) = from_back es (e ∷ [])
 
-  pub join_of_split : (pages : PageMap) → joined (shards_of w bound (extents_of (finite.entries pages))) ≡ pages
+  pub join_of_split : (pages : PageMap) → joined_map (shards_of w bound (extents_of (finite.entries pages))) ≡ pages
   join_of_split pages =
       let es = extents_of (finite.entries pages) in
       ap (λ l. with_pages finite.empty (flat_map extent_pages l)) (shards_back es)

@@ -4,3 +4,4 @@ pub mod Fronts
 pub mod Cutting
 pub mod Joins
 pub mod FirstPages
+pub mod Openings

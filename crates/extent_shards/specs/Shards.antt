@@ -1,5 +1,5 @@
 -- An object's extents cut into shards, each of which stands in a row of its own, and shards joined to a page map.
-use Rattle.std.specs.Prelude.{◌≡◌, ◌⊎◌, ℕ, nat_le, Bool, true, List, [], ◌∷◌, ◌++◌, length, Option, Some, None, if◌then◌else◌}
+use Rattle.std.specs.Prelude.{◌≡◌, ◌⊎◌, ℕ, ◌==◌, nat_le, Bool, true, List, [], ◌∷◌, ◌++◌, length, Option, Some, None, if◌then◌else◌}
 use Rattle.std.specs.List.{flat_map}
 use Rattle.std.specs.FinMap as finite
 use Rattle.unit_fields.specs.declared.width.Width.{Width}
@@ -28,6 +28,20 @@ abbrev pub shards_of : Width → Option ℕ → List Extent → List (List Exten
 shards_of w bound [] = []
 shards_of w bound (e ∷ es) = shards_from w bound (e ∷ []) es
 
+-- the bound of the shards that a store writes
+abbrev pub shard_limit : ℕ
+shard_limit = 1200
+
+-- the page where a shard begins
+abbrev pub first_of : List Extent → ℕ
+first_of [] = 0
+first_of (e ∷ es) = e.first
+
+-- the shard that begins at a page, if one does
+abbrev pub shard_at : List (List Extent) → ℕ → Option (List Extent)
+shard_at [] page = None
+shard_at (shard ∷ shards) page = if first_of shard == page then Some shard else shard_at shards page
+
 -- a shard's bytes are within the bound, or it has one extent alone
 abbrev pub IsBounded : Width → Option ℕ → List Extent → Type 0
 IsBounded w bound shard = (is_within bound (length (shard_bytes w shard)) ≡ true) ⊎ (length shard ≡ 1)
@@ -37,5 +51,5 @@ abbrev pub joined_extents : List (List Extent) → List Extent
 joined_extents shards = flat_map (λ shard. shard) shards
 
 -- the map in which their pages stand
-abbrev pub joined : List (List Extent) → PageMap
-joined shards = with_pages finite.empty (flat_map extent_pages (joined_extents shards))
+abbrev pub joined_map : List (List Extent) → PageMap
+joined_map shards = with_pages finite.empty (flat_map extent_pages (joined_extents shards))

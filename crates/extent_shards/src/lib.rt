@@ -4,9 +4,9 @@
 //! and their rows are written straight from them; the other way rows are read straight into a map, without the extents between.
 //!
 //! Proved: the shards of a map are its extents, cut so that an extent joins a shard where the shard's bytes stay within the bound, and
-//! else begins the next; each shard is within the bound, or has one extent alone; without a bound there is one. `encode` is the spelling
-//! of a shard's extents, and `add` puts the pages of the extents that a value spells in their places. Whatever the bound, the shards of a
-//! map, joined, are the map.
+//! else begins the next; each shard is within the bound, or has one extent alone, and begins at a page of its own; without a bound there
+//! is one. `encode` is the spelling of a shard's extents, which `push` writes behind other bytes, and `add` puts the pages of the extents
+//! that a value spells in their places. Whatever the bound, the shards of a map, joined, are the map.
 #![tactic(auto)]
 
 mod joining;
@@ -17,6 +17,6 @@ mod splitting;
 mod writing;
 
 pub use joining::JoinedShards;
-pub use laws::{a_split_is_bounded, a_split_is_joined, a_split_without_bound};
+pub use laws::{a_split_is_bounded, a_split_is_joined, a_split_rises, a_split_without_bound};
 pub use shard::Shard;
-pub use splitting::split;
+pub use splitting::{SHARD_BYTES, split};

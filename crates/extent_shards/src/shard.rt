@@ -2,12 +2,12 @@
 //!
 //! A shard that is to be written lends its pages from the map and is seen as their extents, and its value is written straight from them;
 //! one that is read goes straight into the map. No list of extents with checksums of its own stands between.
-ghost use Rattle.std.specs.Prelude.{◌≡◌, ◌<◌, length, IfOk};
+ghost use Rattle.std.specs.Prelude.{◌≡◌, ◌++◌, ◌<◌, length, IfOk, OnOk};
 ghost use Rattle.row_format.specs.Prelude.{BeginsAt};
 ghost use Rattle.blob_map.specs.Prelude.{extents_of};
 ghost use Rattle.extent_shards.specs.Shards.{shard_bytes};
 
-use crate::writing::value_of;
+use crate::writing::{least_bytes, push_value};
 use blob_map::Place;
 use byte_maps::Bytes;
 use std::alloc::{AllocError, Global};
@@ -52,6 +52,15 @@ impl<'a> Shard<'a> {
     pub fn encode(&self, alloc: Global, width: Width) -> Result<Bytes, AllocError>
         ensures { IfOk result (λ bytes. bytes ≡ shard_bytes width self.now) }
     {
-        value_of(alloc, width, self.pages)
+        let mut out = Vec::with_capacity(alloc, least_bytes(width, self.pages))?;
+        push_value(&mut out, width, self.pages)?;
+        Ok(Bytes::from_vec(out))
+    }
+
+    /// Writes that value behind other bytes.
+    pub fn push(&self, width: Width, out: &mut Vec<u8>) -> Result<(), AllocError>
+        ensures { OnOk result (out.new.items ≡ out.old.items ++ shard_bytes width self.now) }
+    {
+        push_value(out, width, self.pages)
     }
 }

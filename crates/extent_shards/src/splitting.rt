@@ -12,6 +12,9 @@ use blob_map::{PageMap, Place};
 use std::alloc::{AllocError, Global};
 use unit_fields::Width;
 
+/// The bound on the bytes of the shards that a store writes.
+pub const SHARD_BYTES: u32 = 1200;
+
 // The bytes of an extent of so many pages.
 fn run_bytes(width: Width, count: u16) -> u64
     requires { count ≤ 256 }

@@ -6,9 +6,8 @@ ghost use Rattle.blob_map.specs.Prelude.{follows, extents_of};
 ghost use Rattle.extent_shards.specs.Values.{extent_with, csums_of, IsFirstRun, WritesRun};
 
 use blob_map::Place;
-use byte_maps::Bytes;
 use onode_codec::{Head, push_csum};
-use std::alloc::{AllocError, Global};
+use std::alloc::AllocError;
 use unit_fields::Width;
 use unit_fields::limits::EXTENT_PAGES;
 
@@ -74,23 +73,22 @@ fn push_run(out: &mut Vec<u8>, width: Width, pages: &[(u32, Place)]) -> Result<u
     Ok(count)
 }
 
-// How many bytes the extents of pages have at the least: as many as one extent has.
-fn least_bytes(width: Width, pages: &[(u32, Place)]) -> usize {
+/// How many bytes the extents of pages have at the least: as many as one extent has.
+pub fn least_bytes(width: Width, pages: &[(u32, Place)]) -> usize {
     pages
         .len()
         .saturating_mul(width.bytes_of(1))
         .saturating_add(HEAD_BYTES)
 }
 
-/// The bytes of the extents of pages, one extent behind the other, with checksums of this width.
-pub fn value_of(alloc: Global, width: Width, pages: &[(u32, Place)]) -> Result<Bytes, AllocError>
-    ensures { IfOk result (λ bytes. bytes ≡ flat_map (extent_bytes width) (extents_of pages.now)) }
+/// Writes the extents of pages, one behind the other, with checksums of this width.
+pub fn push_value(out: &mut Vec<u8>, width: Width, pages: &[(u32, Place)]) -> Result<(), AllocError>
+    ensures { OnOk result (out.new.items ≡ out.old.items ++ flat_map (extent_bytes width) (extents_of pages.now)) }
 {
-    let mut out = Vec::with_capacity(alloc, least_bytes(width, pages))?;
     let mut left = pages;
     'runs: while !left.is_empty() {
-        let count = push_run(&mut out, width, left)?;
+        let count = push_run(out, width, left)?;
         left = behind(left, count);
     }
-    Ok(Bytes::from_vec(out))
+    Ok(())
 }

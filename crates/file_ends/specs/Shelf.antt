@@ -8,5 +8,5 @@ pub record Shelf : Type 0 where
   pub faults : ℕ
 
 -- as a bay: it tells no contents
-abbrev pub view_of : Shelf → BayView
-view_of s = record { given = s.given; names = None }
+abbrev pub shelf_view : Shelf → BayView
+shelf_view s = record { given = s.given; names = None }

@@ -3,7 +3,7 @@ ghost use Rattle.std.specs.Prelude.{◌≡◌, ◌+◌, ◌<◌, ◌≤◌, IfOk
 ghost use Rattle.block_device.specs.Prelude.{Rose};
 ghost use Rattle.device_file.specs.FileDisk.{fresh_file};
 ghost use Rattle.end_points.specs.Bay.{IsFewUnits, HasAskedUnits};
-ghost use Rattle.file_ends.specs.Shelf.{view_of};
+ghost use Rattle.file_ends.specs.Shelf.{shelf_view};
 
 use crate::source::FileSource;
 use crate::standard::StandardDescriptors;
@@ -97,7 +97,7 @@ impl<R: Files<File = File> + Clock + Copy> Bay for FileBay<R> {
 
     type Src = FileSource;
 
-    ghost bay = { view_of };
+    ghost bay = { shelf_view };
 
     ghost faults = { λ b. b.faults };
 

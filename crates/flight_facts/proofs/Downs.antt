@@ -27,9 +27,9 @@ was_up (submitting client line change) s d s' d' made up = of_answer made.1
     of_answer (inl accepts) = accepts.can_note.up
     of_answer (inr (inl refused)) = refused.1.can_note.up
     of_answer (inr (inr turned)) = sym (ap (λ (t : State). t.down) turned.same) ∙ up
-was_up (reading client line command) s d s' d' made up = of_answer made.1
+was_up (reading client line read) s d s' d' made up = of_answer made.0
   where
-    of_answer : Reads client line command s d s' → s.down ≡ None
+    of_answer : Reads client line read s d s' → s.down ≡ None
     of_answer (inl (a, is)) = is.can_note.up
     of_answer (inr turned) = sym (ap (λ (t : State). t.down) turned.same) ∙ up
 was_up (stepping step) s d s' d' made up = of_cases (ready_cases step d.depth s made.0)

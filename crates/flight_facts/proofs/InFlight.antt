@@ -7,7 +7,7 @@ use Rattle.store_steps.specs.declared.flight.Job.TheVariants as job
 use Rattle.store_steps.specs.declared.step.Step.TheVariants as step
 use Rattle.store_steps.specs.declared.flight.Switching.{Switching}
 use Rattle.store_steps.specs.Prelude.{Batch, State, batch_ops, is_not_sent, pieces_of, check_pieces, is_ready_up, flush_of, second_flush}
-use Rattle.flight_facts.specs.Prelude.{Stage, by_one, by_pieces, IsUnsent, IsEnded, AreInTurn, batch_pieces, batch_stages, IsBatchOpen, IsBatchFar, switch_stages, IsSwitchFar, units_for, is_of_batch, is_of_switch, flying_for, IsPartGiven, IsAllGiven, TouchesGiven, IsWriteOf, IsOfJob, AreOfJobs, FlightsMatch}
+use Rattle.flight_facts.specs.Prelude.{Stage, by_one, by_pieces, IsUnsent, IsEnded, AreInTurn, batch_pieces, batch_stages, IsBatchOpen, IsBatchFar, switch_stages, IsSwitchFar, units_of_job, is_of_batch, is_of_switch, flying_for, IsPartGiven, IsAllGiven, TouchesGiven, IsWriteOf, IsOfJob, AreOfJobs, FlightsMatch}
 use Rattle.flight_facts.proofs.Pieces.{some_pieces}
 use Rattle.flight_facts.proofs.Lists.{StandsIn, any_stands, all_at}
 use Rattle.flight_facts.proofs.Landing.{part_with, IsLeftOut, IsFlown, jobs_found}
@@ -107,7 +107,7 @@ module _ (s : State) (flights : List Flight) (ticket : Ticket) (out : IsLeftOut 
         holds = (
           at.holds.0,
           within (at.item).done count (at.item).given _ _ _ part.counted (left_units (at.item).place ticket s.flying out)
-              (ap (λ (j : Job). units_for (at.item).place j) is ∙ ap (λ (b : Bool). cond b count 0) (eq-eqb place (at.item).place (sym at.holds.0))),
+              (ap (λ (j : Job). units_of_job (at.item).place j) is ∙ ap (λ (b : Bool). cond b count 0) (eq-eqb place (at.item).place (sym at.holds.0))),
         );
       }
     where

@@ -8,8 +8,8 @@ use Rattle.meta_log.proofs.SealLemmas.{length-record_units}
 use Rattle.store_steps.specs.declared.flight.FlushState.TheVariants as flush
 use Rattle.store_steps.specs.declared.flight.Job.TheVariants as job
 use Rattle.store_steps.specs.declared.flight.Switching.{Switching}
-use Rattle.store_steps.specs.Prelude.{Batch, State, batch_ops, flush_sent, record_sent, sync_sent, sealed, committed_batch, log_after, is_not_sent, pieces_of, check_pieces, piece_unit, piece_bytes}
-use Rattle.flight_facts.specs.Prelude.{Stage, by_one, by_pieces, IsEnded, AreInTurn, batch_pieces, batch_stages, IsBatchOpen, IsBatchFar, IsSwitchFar, units_for, units_flying, is_of_batch, is_of_switch, flying_for, IsPartGiven, IsGivenPiece, TouchesOnlyOf, IsOfJob, AreOfJobs, FlightsMatch}
+use Rattle.store_steps.specs.Prelude.{Batch, State, batch_ops, flush_sent, record_sent, sync_sent, sealed, committed_batch, log_after, is_not_sent, pieces_of, check_pieces, piece_unit, begun_piece_bytes}
+use Rattle.flight_facts.specs.Prelude.{Stage, by_one, by_pieces, IsEnded, AreInTurn, batch_pieces, batch_stages, IsBatchOpen, IsBatchFar, IsSwitchFar, units_of_job, units_flying, is_of_batch, is_of_switch, flying_for, IsPartGiven, IsGivenPiece, TouchesOnlyOf, IsOfJob, AreOfJobs, FlightsMatch}
 use Rattle.flight_facts.proofs.Pieces.{some_pieces}
 use Rattle.flight_facts.proofs.Untouched.{apart_before, apart_behind}
 use Rattle.flight_facts.proofs.Stages.{flight_for, all_ended, ended_ahead, written_ended, sends, not_sent_next, flushed_ended, flushed_begun}
@@ -35,8 +35,8 @@ waiting_same flying flying' [] same all = tt
 waiting_same flying flying' (x ∷ xs) same all =
     (record { within = (all.0).within; counted = ap (λ (n : ℕ). x.done + n) same.0 ∙ (all.0).counted }, waiting_same flying flying' xs same.1 all.1)
 
-log_units : (place : ℕ) (flying : List Flying) (f : Flying) → units_for place f.job ≡ 0 → units_flying place (flying ++ f ∷ []) ≡ units_flying place flying
-log_units place flying f none = units_both place flying (f ∷ []) ∙ less (units_flying place flying) (units_for place f.job) none
+log_units : (place : ℕ) (flying : List Flying) (f : Flying) → units_of_job place f.job ≡ 0 → units_flying place (flying ++ f ∷ []) ≡ units_flying place flying
+log_units place flying f none = units_both place flying (f ∷ []) ∙ less (units_flying place flying) (units_of_job place f.job) none
   where
     less : (n m : ℕ) → m ≡ 0 → n + (m + 0) ≡ n
     less n m is = omega (arith, is)
@@ -60,7 +60,7 @@ data_alone m m' pending flying flights batch switch = jobs_then m m' pending pen
 
 -- one more submission for the log
 pub log_sent : (s : State) (flights : List Flight) (f : Flying) (g : Flight) (m' : Meta) (batch : Option Batch) (switching : Option Switching)
-    (events : ℕ) → ((place : ℕ) → units_for place f.job ≡ 0) → FlightsMatch s flights
+    (events : ℕ) → ((place : ℕ) → units_of_job place f.job ≡ 0) → FlightsMatch s flights
     → IsBatchFar m'.sup.half m'.tail m'.number batch m'.begun (flying_for is_of_batch s.flying ++ flying_for is_of_batch (f ∷ []))
     → IsSwitchFar (length (check_pieces m')) m'.check switching (flying_for is_of_switch s.flying ++ flying_for is_of_switch (f ∷ []))
     → IfSome switching (λ w. batch ≡ None) → AreOfJobs m' s.pending s.flying flights → IsOfJob m' s.pending f.job g
@@ -121,7 +121,7 @@ begun_far s flights b o m is begun =
 
 -- a submission for the open batch
 batch_sent : (s : State) (flights : List Flight) (b b' : Batch) (f : Flying) (g : Flight) (begun : Option Begun) → is_of_switch f.job ≡ false
-    → ((place : ℕ) → units_for place f.job ≡ 0) → FlightsMatch s flights → s.batch ≡ Some b
+    → ((place : ℕ) → units_of_job place f.job ≡ 0) → FlightsMatch s flights → s.batch ≡ Some b
     → IsBatchOpen s.log.sup.half s.log.tail s.log.number b' begun (flying_for is_of_batch s.flying ++ flying_for is_of_batch (f ∷ []))
     → (let m' : Meta = record s.log { begun = begun } in AreOfJobs m' s.pending s.flying flights × IsOfJob m' s.pending f.job g)
     → (let m' : Meta = record s.log { begun = begun } in
@@ -225,7 +225,7 @@ given_from_falls : (units given : ℕ) → given_from units (given + 1) ≤ give
 given_from_falls units given = omega arith
 
 pub record_long : (number : ℕ) (r : Begun) → r.given < pieces_of number r
-    → length (piece_bytes number r) ≡ 4096 * piece_units (unit_count number r.ops) r.given
+    → length (begun_piece_bytes number r) ≡ 4096 * piece_units (unit_count number r.ops) r.given
 record_long number r more =
     let units : ℕ = unit_count number r.ops in
     length-units_from (piece_first units r.given) (piece_units units r.given) (record_units number r.ops)
@@ -238,9 +238,9 @@ record_long number r more =
 -- the next piece lies where the pieces lie that are given then
 piece_of_record : (m : Meta) (r : Begun) (ticket : ℕ) → r.given < pieces_of m.number r
     → (let m' : Meta = record m { begun = Some (record r { given = r.given + 1 }) } in
-    TouchesOnlyOf (IsGivenPiece m') m'.begun (flight_of ticket (event.Write (piece_unit m r) (piece_bytes m.number r))))
+    TouchesOnlyOf (IsGivenPiece m') m'.begun (flight_of ticket (event.Write (piece_unit m r) (begun_piece_bytes m.number r))))
 piece_of_record m r ticket more unit out = elim (cases_lt unit (piece_unit m r)) [
-  | inl before ↦ apart_before ticket (piece_unit m r) unit (piece_bytes m.number r) before
+  | inl before ↦ apart_before ticket (piece_unit m r) unit (begun_piece_bytes m.number r) before
   | inr from ↦ elim (cases_lt unit (piece_unit m r + piece_units units r.given)) [
     | inl inside ↦ absurd (out (record {
       j = unit - (active_unit m.sup + m.tail);
@@ -248,7 +248,7 @@ piece_of_record m r ticket more unit out = elim (cases_lt unit (piece_unit m r))
       within = within (active_unit m.sup) m.tail (piece_first units r.given) (piece_units units r.given) units unit from inside lying.within;
       is = place (active_unit m.sup) m.tail (piece_first units r.given) unit from;
     }))
-    | inr past ↦ apart_behind ticket (piece_unit m r) (piece_units units r.given) unit (piece_bytes m.number r) (record_long m.number r more) past
+    | inr past ↦ apart_behind ticket (piece_unit m r) (piece_units units r.given) unit (begun_piece_bytes m.number r) (record_long m.number r more) past
   ]
 ]
   where
@@ -283,12 +283,12 @@ pieces_more m r g is unit out = is unit (λ p. out (record {
 
 pub record_matches : (s : State) (flights : List Flight) (b : Batch) (r : Begun) (ticket : Ticket) → FlightsMatch s flights → s.batch ≡ Some b
     → s.log.begun ≡ Some r → is_flushed b.first ≡ true → r.given < pieces_of s.log.number r
-    → FlightsMatch (record_sent r ticket s) (flights ++ flight_of ticket.place (event.Write (piece_unit s.log r) (piece_bytes s.log.number r)) ∷ [])
+    → FlightsMatch (record_sent r ticket s) (flights ++ flight_of ticket.place (event.Write (piece_unit s.log r) (begun_piece_bytes s.log.number r)) ∷ [])
 record_matches s flights b r ticket m is begun ready more =
     let flying : List Flying = flying_for is_of_batch s.flying in
     let r' : Begun = record r { given = r.given + 1 } in
     let m' : Meta = record s.log { begun = Some r' } in
-    let g : Flight = flight_of ticket.place (event.Write (piece_unit s.log r) (piece_bytes s.log.number r)) in
+    let g : Flight = flight_of ticket.place (event.Write (piece_unit s.log r) (begun_piece_bytes s.log.number r)) in
     let opened : IsBatchOpen s.log.sup.half s.log.tail s.log.number b (Some r) flying = begun_far s flights b (Some r) m is begun in
     let made : IsMadeFar s.log.number b r flying = made_far s.log.sup.half s.log.tail s.log.number b r flying opened in
     let pieces : ℕ = batch_pieces s.log.number b in

@@ -13,7 +13,7 @@ use Rattle.object_model.specs.declared.command.Answer.{Answer}
 use Rattle.plan_rows.specs.declared.plan.Plan.{Plan}
 use Rattle.store_steps.specs.declared.flight.Switching.{Switching}
 use Rattle.store_steps.specs.Prelude.{Batch, State, Unsent, unsent_units, run_bytes, unsent, next_unsent, choice, left_by, most_grouped, given_more, data_sent, taken_up, check_pieces, need_of, context_of, entered, accepted_with, units_taken, intent_of}
-use Rattle.flight_facts.specs.Prelude.{IsAllGiven, batch_pieces, batch_stages, IsBatchOpen, IsBatchFar, IsSwitchFar, units_for, units_flying, is_of_batch, is_of_switch, flying_for, IsPartGiven, AreInPlace, IsNone, TouchesGiven, AnyByRecursion, IsWriteOf, IsGivenPiece, TouchesOnlyOf, IsOfJob, AreOfJobs, FlightsMatch, FitsRecord}
+use Rattle.flight_facts.specs.Prelude.{IsAllGiven, batch_pieces, batch_stages, IsBatchOpen, IsBatchFar, IsSwitchFar, units_of_job, units_flying, is_of_batch, is_of_switch, flying_for, IsPartGiven, AreInPlace, IsNone, TouchesGiven, AnyByRecursion, IsWriteOf, IsGivenPiece, TouchesOnlyOf, IsOfJob, AreOfJobs, FlightsMatch, FitsRecord}
 use Rattle.flight_facts.proofs.Untouched.{all_then, apart_before, apart_behind}
 use Rattle.flight_facts.proofs.RunUnits.{IsRunOf, run_of_left, row_bytes, row_at, given_units}
 use Rattle.flight_facts.proofs.RunPlaces.{run_whole}
@@ -41,17 +41,17 @@ next_stands (x ∷ xs) n is = of_first (λ e. next_stands xs n e) (unsent x) ref
 
 -- none of the other contexts has it
 pub others_none : (count : ℕ) (place : ℕ) (xs : List Context) → AllByRecursion (λ y. y.place == place ≡ false) xs
-    → AllByRecursion (λ y. units_for y.place (job.Data place count) ≡ 0) xs
-others_none count place xs away = all_then (λ y. y.place == place ≡ false) (λ y. units_for y.place (job.Data place count) ≡ 0)
+    → AllByRecursion (λ y. units_of_job y.place (job.Data place count) ≡ 0) xs
+others_none count place xs away = all_then (λ y. y.place == place ≡ false) (λ y. units_of_job y.place (job.Data place count) ≡ 0)
     (λ y e. ap (λ (b : Bool). cond b count 0) (ne_eqb place y.place (λ same. apart y.place place e same))) xs away
   where
     apart : (a b : ℕ) → a == b ≡ false → b ≡ a → ⊥
     apart a b e same = let t : a == b ≡ true = eq-eqb a b (sym same) in cc
 
-more_fly : (flying : List Flying) (f : Flying) (xs : List Context) → AllByRecursion (λ y. units_for y.place f.job ≡ 0) xs
+more_fly : (flying : List Flying) (f : Flying) (xs : List Context) → AllByRecursion (λ y. units_of_job y.place f.job ≡ 0) xs
     → AllByRecursion (λ y. units_flying y.place (flying ++ f ∷ []) ≡ units_flying y.place flying) xs
-more_fly flying f xs none = all_then (λ y. units_for y.place f.job ≡ 0) (λ y. units_flying y.place (flying ++ f ∷ []) ≡ units_flying y.place flying)
-    (λ y e. units_both y.place flying (f ∷ []) ∙ less (units_flying y.place flying) (units_for y.place f.job) e) xs none
+more_fly flying f xs none = all_then (λ y. units_of_job y.place f.job ≡ 0) (λ y. units_flying y.place (flying ++ f ∷ []) ≡ units_flying y.place flying)
+    (λ y e. units_both y.place flying (f ∷ []) ∙ less (units_flying y.place flying) (units_of_job y.place f.job) e) xs none
   where
     less : (n m : ℕ) → m ≡ 0 → n + (m + 0) ≡ n
     less n m is = omega (arith, is)
@@ -190,9 +190,9 @@ data_matches s flights n ticket m fits is =
 
 -- ---- Take
 
-none_flies : (place : ℕ) (fs : List Flying) → units_flying place fs ≡ 0 → AllByRecursion (λ f. units_for place f.job ≡ 0) fs
+none_flies : (place : ℕ) (fs : List Flying) → units_flying place fs ≡ 0 → AllByRecursion (λ f. units_of_job place f.job ≡ 0) fs
 none_flies place [] none = tt
-none_flies place (f ∷ fs) none = (first (units_for place f.job) (units_flying place fs) none, none_flies place fs (rest (units_for place f.job) (units_flying place fs) none))
+none_flies place (f ∷ fs) none = (first (units_of_job place f.job) (units_flying place fs) none, none_flies place fs (rest (units_of_job place f.job) (units_flying place fs) none))
   where
     first : (a b : ℕ) → a + b ≡ 0 → a ≡ 0
     first a b is = omega (arith, is)
@@ -201,11 +201,11 @@ none_flies place (f ∷ fs) none = (first (units_for place f.job) (units_flying 
     rest a b is = omega (arith, is)
 
 -- what flies of none of a context's units is a write of another
-less_write : (front : List Context) (x : Context) (back : List Context) (place count : ℕ) (g : Flight) → units_for x.place (job.Data place count) ≡ 0
+less_write : (front : List Context) (x : Context) (back : List Context) (place count : ℕ) (g : Flight) → units_of_job x.place (job.Data place count) ≡ 0
     → IsWriteOf (front ++ x ∷ back) place count g → IsWriteOf (front ++ back) place count g
 less_write front x back place count g none w = record { some = w.some; of = from front w.of }
   where
-    full : x.place ≡ place → units_for x.place (job.Data place count) ≡ count
+    full : x.place ≡ place → units_of_job x.place (job.Data place count) ≡ count
     full is = ap (λ (b : Bool). cond b count 0) (eq-eqb place x.place (sym is))
 
     never : (n m : ℕ) → n ≡ 0 → n ≡ m → 0 < m → ⊥
@@ -213,12 +213,12 @@ less_write front x back place count g none w = record { some = w.some; of = from
 
     from : (fs : List Context) → AnyByRecursion (λ z. (z.place ≡ place) × TouchesGiven z g) (fs ++ x ∷ back)
         → AnyByRecursion (λ z. (z.place ≡ place) × TouchesGiven z g) (fs ++ back)
-    from [] (inl here) = absurd (never (units_for x.place (job.Data place count)) count none (full here.0) w.some)
+    from [] (inl here) = absurd (never (units_of_job x.place (job.Data place count)) count none (full here.0) w.some)
     from [] (inr rest) = rest
     from (f ∷ fs) (inl here) = inl here
     from (f ∷ fs) (inr rest) = inr (from fs rest)
 
-less_job : (m : Meta) (front : List Context) (x : Context) (back : List Context) (j : Job) (g : Flight) → units_for x.place j ≡ 0
+less_job : (m : Meta) (front : List Context) (x : Context) (back : List Context) (j : Job) (g : Flight) → units_of_job x.place j ≡ 0
     → IsOfJob m (front ++ x ∷ back) j g → IsOfJob m (front ++ back) j g
 less_job m front x back (job.Data place count) g none w = less_write front x back place count g none w
 less_job m front x back other g none is = is
@@ -252,7 +252,7 @@ jobs_left m flying flights xs (y ∷ ys) left (at, are) parts of =
     jobs_left m flying flights (at.front ++ at.back) ys left are
     (all_join (IsPartGiven flying) at.front at.back (all_left (IsPartGiven flying) at.front (y ∷ at.back) them) behind.1)
     (jobs_then m m (at.front ++ y ∷ at.back) (at.front ++ at.back) flying flights
-    (all_then (λ f. units_for y.place f.job ≡ 0) (λ f. (g : Flight) → IsOfJob m (at.front ++ y ∷ at.back) f.job g → IsOfJob m (at.front ++ at.back) f.job g)
+    (all_then (λ f. units_of_job y.place f.job ≡ 0) (λ f. (g : Flight) → IsOfJob m (at.front ++ y ∷ at.back) f.job g → IsOfJob m (at.front ++ at.back) f.job g)
     (λ f e g of. less_job m at.front y at.back f.job g e of) flying (none_flies y.place flying idle))
     (subst (λ (zs : List Context). AreOfJobs m zs flying flights) at.is of))
 
@@ -310,7 +310,7 @@ none_of_new : (m : Meta) (pending : List Context) (n : ℕ) (flying : List Flyin
     → AreOfJobs m pending flying flights → units_flying n flying ≡ 0
 none_of_new m pending n [] flights below are = refl
 none_of_new m pending n (f ∷ fs) [] below are = absurd are
-none_of_new m pending n (f ∷ fs) (g ∷ gs) below are = sum (units_for n f.job) (units_flying n fs) by (none_of_new m pending n fs gs below are.1)
+none_of_new m pending n (f ∷ fs) (g ∷ gs) below are = sum (units_of_job n f.job) (units_flying n fs) by (none_of_new m pending n fs gs below are.1)
   where
     sum : (a b : ℕ) → a ≡ 0 → b ≡ 0 → a + b ≡ 0
     sum a b is is' = omega (arith, is, is')
@@ -323,9 +323,9 @@ none_of_new m pending n (f ∷ fs) (g ∷ gs) below are = sum (units_for n f.job
     apart : (a b : ℕ) → a < b → a ≡ b → ⊥
     apart a b lt is = omega (arith, lt, is)
 
-    by : units_for n f.job ≡ 0
+    by : units_of_job n f.job ≡ 0
     by = no_units m pending f.job g (touched m pending f.job g are.0) n
-        (λ place count its w. ap (λ (j : Job). units_for n j) its
+        (λ place count its w. ap (λ (j : Job). units_of_job n j) its
         ∙ ap (λ (b : Bool). cond b count 0) (ne_eqb place n (λ same. apart place n (low place pending below w.of) same)))
 
 pub one_more_waits : (client line : ℕ) (change : Change) (plan : Plan) (s : State) (flights : List Flight) → FlightsMatch s flights

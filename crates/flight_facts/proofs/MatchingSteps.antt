@@ -5,7 +5,7 @@ use Rattle.block_device.specs.declared.event.Event.TheVariants as event
 use Rattle.meta_log.specs.Prelude.{super_bytes, next_super}
 use Rattle.store_steps.specs.declared.step.Step.TheVariants.{Take, Flush, Seal, Record, Sync, Commit, CheckWrite, CheckFlush, SlotWrite, SlotFlush, Switch}
 use Rattle.store_steps.specs.declared.flight.Switching.{Switching}
-use Rattle.store_steps.specs.Prelude.{Batch, State, Unsent, unsent_units, run_bytes, chosen, is_not_sent, pieces_of, check_pieces, batch_is, begun_is, check_is, switch_is, is_ready_up, Takes, DoesData, DoesTake, DoesFlush, DoesSeal, DoesRecord, DoesSync, DoesCommit, DoesFinish, DoesCheckWrite, DoesCheckFlush, DoesSlotWrite, DoesSlotFlush, DoesSwitch, piece_unit, piece_bytes, intent_of}
+use Rattle.store_steps.specs.Prelude.{Batch, State, Unsent, unsent_units, run_bytes, chosen, is_not_sent, pieces_of, check_pieces, batch_is, begun_is, check_is, switch_is, is_ready_up, Takes, DoesData, DoesTake, DoesFlush, DoesSeal, DoesRecord, DoesSync, DoesCommit, DoesFinish, DoesCheckWrite, DoesCheckFlush, DoesSlotWrite, DoesSlotFlush, DoesSwitch, piece_unit, begun_piece_bytes, intent_of}
 use Rattle.flight_facts.specs.Prelude.{AreFlights, IsSwitchFar, is_of_switch, flying_for, FlightsMatch, FitsRecord}
 use Rattle.flight_facts.proofs.Flying.{sent_flights, Landed, landed_flight, reaped_good}
 use Rattle.flight_facts.proofs.Landing.{IsLeftOut, left_out}
@@ -117,7 +117,7 @@ pub record_does : (s : State) (d : Disk) (s' : State) (d' : Disk) → FlightsMat
     → (b : Batch) → s.batch ≡ Some b → DoesRecord s d s' d' → FlightsMatch s' d'.flights
 record_does s d s' d' m ready b is does =
     let r : Begun = does.writing in
-    becomes s' _ d'.flights _ does.after (sent_flights d d' does.ticket.place (event.Write (piece_unit s.log r) (piece_bytes s.log.number r)) does.submitted)
+    becomes s' _ d'.flights _ does.after (sent_flights d d' does.ticket.place (event.Write (piece_unit s.log r) (begun_piece_bytes s.log.number r)) does.submitted)
     (record_matches s d.flights b r does.ticket m is does.begun
     (test_of (λ b. is_flushed b.first) s.batch b is (record_tests s d.depth ready).0) (pieces_left s d.depth r ready does.begun))
 

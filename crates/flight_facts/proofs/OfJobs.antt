@@ -2,14 +2,14 @@
 use Rattle.std.proofs.Common.{◌≡◌, ℕ, false, List, Option, Some, None, refl, sym, ap, subst, ◌∙◌}
 use Rattle.flight_facts.proofs.Common.{option_map, Flight, Context, Job, Meta, other_slot}
 use Rattle.store_steps.specs.declared.flight.Job.TheVariants as job
-use Rattle.flight_facts.specs.Prelude.{units_for, is_of_batch, is_of_switch, IsWriteOf, TouchesOnly, IsGivenPiece, IsGivenRun, TouchesOnlyOf, IsOfJob}
+use Rattle.flight_facts.specs.Prelude.{units_of_job, is_of_batch, is_of_switch, IsWriteOf, TouchesOnly, IsGivenPiece, IsGivenRun, TouchesOnlyOf, IsOfJob}
 
 pub data Touched (m : Meta) (pending : List Context) (j : Job) (g : Flight) : Type 0 where
   by_write : (place count : ℕ) → j ≡ job.Data place count → IsWriteOf pending place count g → Touched m pending j g
   by_piece : j ≡ job.Record → TouchesOnlyOf (IsGivenPiece m) m.begun g → Touched m pending j g
   by_run : j ≡ job.Check → TouchesOnlyOf (IsGivenRun m) m.check g → Touched m pending j g
   by_slot : j ≡ job.Slot → TouchesOnly (λ unit. unit ≡ other_slot m.sup) g → Touched m pending j g
-  by_none : g.bytes ≡ 0 → ((m' : Meta) (later : List Context) → IsOfJob m' later j g) → ((place : ℕ) → units_for place j ≡ 0) → Touched m pending j g
+  by_none : g.bytes ≡ 0 → ((m' : Meta) (later : List Context) → IsOfJob m' later j g) → ((place : ℕ) → units_of_job place j ≡ 0) → Touched m pending j g
 
 pub touched : (m : Meta) (pending : List Context) (j : Job) (g : Flight) → IsOfJob m pending j g → Touched m pending j g
 touched m pending (job.Data place count) g is = by_write place count refl is
@@ -20,11 +20,11 @@ touched m pending other g is = by_none is (λ m' later. is) (λ place. refl)
 
 -- only a data write is of units of a context
 pub no_units : (m : Meta) (pending : List Context) (j : Job) (g : Flight) → Touched m pending j g → (place : ℕ)
-    → ((of count : ℕ) → j ≡ job.Data of count → IsWriteOf pending of count g → units_for place j ≡ 0) → units_for place j ≡ 0
+    → ((of count : ℕ) → j ≡ job.Data of count → IsWriteOf pending of count g → units_of_job place j ≡ 0) → units_of_job place j ≡ 0
 no_units m pending j g (by_write of count its write) place away = away of count its write
-no_units m pending j g (by_piece its piece) place away = ap (units_for place) its
-no_units m pending j g (by_run its run) place away = ap (units_for place) its
-no_units m pending j g (by_slot its slot) place away = ap (units_for place) its
+no_units m pending j g (by_piece its piece) place away = ap (units_of_job place) its
+no_units m pending j g (by_run its run) place away = ap (units_of_job place) its
+no_units m pending j g (by_slot its slot) place away = ap (units_of_job place) its
 no_units m pending j g (by_none empty still none) place away = none place
 
 -- What the two logs and their contexts have in common, so that what is in flight is of its job in both.

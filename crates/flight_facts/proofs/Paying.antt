@@ -84,7 +84,7 @@ same_check : (a b : ℕ) (ops : List RowOp) → units_of_records a (one_record o
 same_check a b [] = refl
 same_check a b (op ∷ ops) = ap (λ (n : ℕ). n + 0) (same_units a b (op ∷ ops))
 
-switched_due : (m : Meta) → check_due (checks.switched m) ≡ 0
+switched_due : (m : Meta) → check_due (checks.switched_log m) ≡ 0
 switched_due m = ap (λ (t : Bool). cond t 0 check_most)
     (eq-eqb (check_units m.number m.rows) (check_units (m.number + length (check_records m.rows)) m.rows)
     (same_check m.number (m.number + length (check_records m.rows)) (row_sets m.rows)))
@@ -441,7 +441,7 @@ module _ (s : State) (d : Disk) where
       let w = some_is (λ v. is_flushed v.slot_flush) s.switching ready in
       let opened : IsSwitchOpen s w.0 = switch_open s d.flights w.0 m w.1 in
       let work : ℕ = stages_work (switch_stages (length (check_pieces s.log)) opened.checking w.0) in
-      let m' : Meta = checks.switched s.log in
+      let m' : Meta = checks.switched_log s.log in
       subst (λ (t : State). Paid s d t d') (sym does.after) (record {
         falls = less (length s.flying) (sum_work s.pending) (option_map_or (batch_work s.log) s.batch 0) (option_map_or (batch_work m') s.batch 0) work
             (option_map_or (switch_work s.log) s.switching (check_due s.log)) (check_due m') (applied_count s - s.acked)

@@ -4,7 +4,7 @@ use Rattle.flight_facts.proofs.Common.{AllByRecursion, option_map, option_map_or
 use Rattle.store_steps.specs.declared.flight.Job.TheVariants as job
 use Rattle.store_steps.specs.declared.flight.Switching.{Switching}
 use Rattle.store_steps.specs.Prelude.{Batch, State, with_context, done_more, after_done, written_more, checked_more, first_flushed, second_flushed, check_flushed, slot_written, slot_flushed, check_pieces}
-use Rattle.flight_facts.specs.Prelude.{by_one, by_pieces, AreInTurn, AreFlights, batch_pieces, batch_stages, IsBatchOpen, IsBatchFar, switch_stages, IsSwitchFar, units_for, units_flying, is_of_batch, is_of_switch, flying_for, TouchesGiven, IsWriteOf, IsGivenPiece, IsGivenRun, IsOfJob, AreOfJobs, FlightsMatch}
+use Rattle.flight_facts.specs.Prelude.{by_one, by_pieces, AreInTurn, AreFlights, batch_pieces, batch_stages, IsBatchOpen, IsBatchFar, switch_stages, IsSwitchFar, units_of_job, units_flying, is_of_batch, is_of_switch, flying_for, TouchesGiven, IsWriteOf, IsGivenPiece, IsGivenRun, IsOfJob, AreOfJobs, FlightsMatch}
 use Rattle.flight_facts.proofs.Untouched.{all_then}
 use Rattle.flight_facts.proofs.Lists.{StandsIn, any_stands, with_in}
 use Rattle.flight_facts.proofs.Flying.{others_of}
@@ -18,9 +18,9 @@ use Rattle.flight_facts.proofs.MatchingMore.{others_none, writes_more, writes_go
 
 -- the units that fly but for it
 pub left_units : (place : ℕ) (ticket : Ticket) (fs : List Flying) (out : IsLeftOut ticket fs)
-    → units_flying place (others_of ticket fs) + units_for place out.flight.job ≡ units_flying place fs
+    → units_flying place (others_of ticket fs) + units_of_job place out.flight.job ≡ units_flying place fs
 left_units place ticket fs out =
-    sums (units_flying place out.front) (units_flying place out.back) (units_for place out.flight.job) _ _
+    sums (units_flying place out.front) (units_flying place out.back) (units_of_job place out.flight.job) _ _
     (ap (λ (gs : List Flying). units_flying place gs) out.left ∙ units_both place out.front out.back)
     (ap (λ (gs : List Flying). units_flying place gs) out.is ∙ units_both place out.front (out.flight ∷ out.back))
   where
@@ -28,9 +28,9 @@ left_units place ticket fs out =
     sums front back one others all is is' = omega (arith, is, is')
 
 left_same : (ticket : Ticket) (fs : List Flying) (out : IsLeftOut ticket fs) (xs : List Context)
-    → AllByRecursion (λ y. units_for y.place out.flight.job ≡ 0) xs
+    → AllByRecursion (λ y. units_of_job y.place out.flight.job ≡ 0) xs
     → AllByRecursion (λ y. units_flying y.place (others_of ticket fs) ≡ units_flying y.place fs) xs
-left_same ticket fs out xs none = all_then (λ y. units_for y.place out.flight.job ≡ 0) (λ y. units_flying y.place (others_of ticket fs) ≡ units_flying y.place fs)
+left_same ticket fs out xs none = all_then (λ y. units_of_job y.place out.flight.job ≡ 0) (λ y. units_flying y.place (others_of ticket fs) ≡ units_flying y.place fs)
     (λ y e. same _ _ _ (left_units y.place ticket fs out) e) xs none
   where
     same : (others one all : ℕ) → others + one ≡ all → one ≡ 0 → others ≡ all
@@ -50,15 +50,15 @@ data_left s flights ticket out front x back count is its mirror m events =
     (λ part. record {
       within = part.within;
       counted = counted x.done count (units_flying x.place left) (units_flying x.place s.flying) x.given _ (left_units x.place ticket s.flying out)
-          (ap (λ (j : Job). units_for x.place j) its ∙ ap (λ (b : Bool). cond b count 0) (eq-eqb x.place x.place refl)) part.counted;
+          (ap (λ (j : Job). units_of_job x.place j) its ∙ ap (λ (b : Bool). cond b count 0) (eq-eqb x.place x.place refl)) part.counted;
     })
     (part_stays is_of_batch ticket s.flying out (ap is_of_batch its)) (part_stays is_of_switch ticket s.flying out (ap is_of_switch its))
     (λ of. jobs_change s.log s.log (front ++ x ∷ back) (front ++ y ∷ back)
     (writes_go_on s.log (front ++ x ∷ back) (front ++ y ∷ back) (writes_more front x y back refl (λ h t. t))) left (without ticket.place flights)
     (jobs_left s.log (front ++ x ∷ back) ticket s.flying flights mirror of))
   where
-    none_of : (xs : List Context) → AllByRecursion (λ z. z.place == x.place ≡ false) xs → AllByRecursion (λ z. units_for z.place out.flight.job ≡ 0) xs
-    none_of xs away = subst (λ (j : Job). AllByRecursion (λ z. units_for z.place j ≡ 0) xs) (sym its) (others_none count x.place xs away)
+    none_of : (xs : List Context) → AllByRecursion (λ z. z.place == x.place ≡ false) xs → AllByRecursion (λ z. units_of_job z.place out.flight.job ≡ 0) xs
+    none_of xs away = subst (λ (j : Job). AllByRecursion (λ z. units_of_job z.place j ≡ 0) xs) (sym its) (others_none count x.place xs away)
 
     counted : (done count rest all given one : ℕ) → rest + one ≡ all → one ≡ count → done + all ≡ given → (done + count) + rest ≡ given
     counted done count rest all given one is same was = omega (arith, is, same, was)
@@ -154,7 +154,7 @@ module _ (s : State) (flights : List Flight) (ticket : Ticket) (events : ℕ) (o
   reaped_state = record s { flying = others_of ticket s.flying; events = events }
 
   -- where it is no data write, and batch and switch are so far
-  log_left : (m' : Meta) (batch : Option Batch) (switching : Option Switching) → ((place : ℕ) → units_for place out.flight.job ≡ 0) → FlightsMatch s flights
+  log_left : (m' : Meta) (batch : Option Batch) (switching : Option Switching) → ((place : ℕ) → units_of_job place out.flight.job ≡ 0) → FlightsMatch s flights
       → IsBatchFar m'.sup.half m'.tail m'.number batch m'.begun (flying_for is_of_batch (others_of ticket s.flying))
       → IsSwitchFar (length (check_pieces m')) m'.check switching (flying_for is_of_switch (others_of ticket s.flying))
       → IfSome switching (λ w. batch ≡ None) → AreOfJobs m' s.pending (others_of ticket s.flying) (without ticket.place flights)
@@ -162,7 +162,7 @@ module _ (s : State) (flights : List Flight) (ticket : Ticket) (events : ℕ) (o
   log_left m' batch switching none m far switch alone of = record {
     places = m.places;
     waiting = waiting_same s.flying (others_of ticket s.flying) s.pending
-        (left_same ticket s.flying out s.pending (every (λ y. units_for y.place out.flight.job ≡ 0) (λ y. none y.place) s.pending)) m.waiting;
+        (left_same ticket s.flying out s.pending (every (λ y. units_of_job y.place out.flight.job ≡ 0) (λ y. none y.place) s.pending)) m.waiting;
     batch = far;
     switch = switch;
     alone = alone;
@@ -205,8 +205,8 @@ module _ (s : State) (flights : List Flight) (ticket : Ticket) (events : ℕ) (o
       batch_stays j its other = subst (IsBatchFar s.log.sup.half s.log.tail s.log.number s.batch s.log.begun)
           (sym (part_stays is_of_batch ticket s.flying out (ap is_of_batch its ∙ other))) m.batch
 
-      no_units_of : (j : Job) → out.flight.job ≡ j → ((place : ℕ) → units_for place j ≡ 0) → (place : ℕ) → units_for place out.flight.job ≡ 0
-      no_units_of j its none place = ap (λ (k : Job). units_for place k) its ∙ none place
+      no_units_of : (j : Job) → out.flight.job ≡ j → ((place : ℕ) → units_of_job place j ≡ 0) → (place : ℕ) → units_of_job place out.flight.job ≡ 0
+      no_units_of j its none place = ap (λ (k : Job). units_of_job place k) its ∙ none place
 
       -- a switch stands alone still, whatever the batch and it have come to
       alone_batch : (change : Batch → Batch) (o : Option Switching) (p : Option Batch) → IfSome o (λ w. p ≡ None) → IfSome o (λ w. option_map change p ≡ None)
@@ -217,13 +217,13 @@ module _ (s : State) (flights : List Flight) (ticket : Ticket) (events : ℕ) (o
       alone_switch change None alone = tt
       alone_switch change (Some w) alone = alone
 
-      of_batch_flush : (j : Job) (change : Batch → Batch) → out.flight.job ≡ j → ((place : ℕ) → units_for place j ≡ 0) → is_of_switch j ≡ false
+      of_batch_flush : (j : Job) (change : Batch → Batch) → out.flight.job ≡ j → ((place : ℕ) → units_of_job place j ≡ 0) → is_of_switch j ≡ false
           → IsBatchFar s.log.sup.half s.log.tail s.log.number (option_map change s.batch) s.log.begun (flying_for is_of_batch (others_of ticket s.flying))
           → (let t : State = record reaped_state { batch = option_map change s.batch } in FlightsMatch t (without ticket.place flights))
       of_batch_flush j change its none other far = log_left s.log (option_map change s.batch) s.switching (no_units_of j its none) m far
           (switch_stays j its other) (alone_batch change s.switching s.batch m.alone) touches
 
-      of_switch_one : (j : Job) (change : Switching → Switching) → out.flight.job ≡ j → ((place : ℕ) → units_for place j ≡ 0) → is_of_batch j ≡ false
+      of_switch_one : (j : Job) (change : Switching → Switching) → out.flight.job ≡ j → ((place : ℕ) → units_of_job place j ≡ 0) → is_of_batch j ≡ false
           → IsSwitchFar (length (check_pieces s.log)) s.log.check (option_map change s.switching) (flying_for is_of_switch (others_of ticket s.flying))
           → (let t : State = record reaped_state { switching = option_map change s.switching } in FlightsMatch t (without ticket.place flights))
       of_switch_one j change its none other far = log_left s.log s.batch (option_map change s.switching) (no_units_of j its none) m

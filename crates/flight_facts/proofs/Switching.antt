@@ -9,7 +9,7 @@ use Rattle.store_steps.specs.declared.flight.Job.TheVariants as job
 use Rattle.meta_store.specs.Checks as checks
 use Rattle.store_steps.specs.declared.flight.Switching.{Switching}
 use Rattle.store_steps.specs.Prelude.{Batch, State, is_not_sent, check_pieces, check_sent, check_flush_sent, slot_sent, slot_flush_sent, check_begun, switched}
-use Rattle.flight_facts.specs.Prelude.{Stage, by_one, by_pieces, IsEnded, AreInTurn, IsBatchFar, switch_stages, IsSwitchFar, units_for, is_of_batch, is_of_switch, flying_for, TouchesOnly, IsGivenRun, TouchesOnlyOf, IsOfJob, AreOfJobs, FlightsMatch}
+use Rattle.flight_facts.specs.Prelude.{Stage, by_one, by_pieces, IsEnded, AreInTurn, IsBatchFar, switch_stages, IsSwitchFar, units_of_job, is_of_batch, is_of_switch, flying_for, TouchesOnly, IsGivenRun, TouchesOnlyOf, IsOfJob, AreOfJobs, FlightsMatch}
 use Rattle.flight_facts.proofs.Untouched.{apart_before, apart_behind}
 use Rattle.flight_facts.proofs.Stages.{flight_for, none_sent, all_ended, ended_ahead, written_ended, sends, not_sent_next, flushed_ended, flushed_begun}
 use Rattle.flight_facts.proofs.Landing.{part_skip}
@@ -87,7 +87,7 @@ ended_all s w opened flushed =
 
 -- a submission for the switch
 switch_sent : (s : State) (flights : List Flight) (w w' : Switching) (o : Option Checking) (f : Flying) (g : Flight) → is_of_batch f.job ≡ false
-    → ((place : ℕ) → units_for place f.job ≡ 0) → FlightsMatch s flights → IsSwitchOpen s w
+    → ((place : ℕ) → units_of_job place f.job ≡ 0) → FlightsMatch s flights → IsSwitchOpen s w
     → IsSwitchFar (length (check_pieces s.log)) o (Some w') (flying_for is_of_switch s.flying ++ flying_for is_of_switch (f ∷ []))
     → (let m' : Meta = record s.log { check = o } in AreOfJobs m' s.pending s.flying flights × IsOfJob m' s.pending f.job g)
     → (let m' : Meta = record s.log { check = o } in
@@ -101,7 +101,7 @@ switch_sent s flights w w' o f g other none m opened far touches =
 
 -- one of its flushes, or the superblock, where the stages ahead have ended
 one_sent : (s : State) (flights : List Flight) (w w' : Switching) (j : Job) (ticket : Ticket) (g : Flight) → is_of_batch j ≡ false
-    → ((place : ℕ) → units_for place j ≡ 0) → FlightsMatch s flights → (opened : IsSwitchOpen s w)
+    → ((place : ℕ) → units_of_job place j ≡ 0) → FlightsMatch s flights → (opened : IsSwitchOpen s w)
     → AreInTurn (switch_stages (length (check_pieces s.log)) opened.checking w') (flying_for is_of_switch s.flying ++ flying_for is_of_switch (flight_for ticket j ∷ []))
     → IsOfJob s.log s.pending j g
     → (let t : State = record s { switching = Some w'; flying = s.flying ++ flight_for ticket j ∷ []; events = s.events + 1 } in FlightsMatch t (flights ++ g ∷ []))
@@ -250,8 +250,8 @@ switched_matches s flights w m is ready =
     record {
       places = m.places;
       waiting = m.waiting;
-      batch = subst (λ (o : Option Batch). IsBatchFar (checks.switched s.log).sup.half (checks.switched s.log).tail (checks.switched s.log).number o s.log.begun (flying_for is_of_batch s.flying)) (sym opened.batch) rest;
+      batch = subst (λ (o : Option Batch). IsBatchFar (checks.switched_log s.log).sup.half (checks.switched_log s.log).tail (checks.switched_log s.log).number o s.log.begun (flying_for is_of_batch s.flying)) (sym opened.batch) rest;
       switch = landed;
       alone = tt;
-      touches = data_alone s.log (checks.switched s.log) s.pending s.flying flights rest.1 landed m.touches;
+      touches = data_alone s.log (checks.switched_log s.log) s.pending s.flying flights rest.1 landed m.touches;
     }

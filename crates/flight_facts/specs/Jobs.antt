@@ -19,13 +19,13 @@ use Rattle.flight_facts.specs.Flights.{IsBatchFar, IsSwitchFar}
 -- ---- data writes
 
 -- the units that a submission writes of the context at this place
-abbrev pub units_for : ℕ → Job → ℕ
-units_for place (job.Data p count) = if p == place then count else 0
-units_for place other = 0
+abbrev pub units_of_job : ℕ → Job → ℕ
+units_of_job place (job.Data p count) = if p == place then count else 0
+units_of_job place other = 0
 
 abbrev pub units_flying : ℕ → List Flying → ℕ
 units_flying place [] = 0
-units_flying place (f ∷ fs) = units_for place f.job + units_flying place fs
+units_flying place (f ∷ fs) = units_of_job place f.job + units_flying place fs
 
 -- A context in no batch: of its units the first were given to the device, and of these so many have not reached it yet.
 pub record IsPartGiven (flying : List Flying) (x : Context) : Type 0 where

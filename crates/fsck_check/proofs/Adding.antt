@@ -10,11 +10,11 @@ use Rattle.read_facts.specs.Prelude.{IsHeldAt}
 use Rattle.findings.specs.declared.finding.Finding.{Finding}
 use Rattle.findings.specs.declared.finding.Finding.TheVariants.{BadSum}
 use Rattle.row_format.specs.Prelude.{Extent}
-use Rattle.fsck_check.specs.Sums.{UnitSum, places_from, extent_places, shard_places, HasSum, HasOther, AreSums, AddsSums, IsIn}
+use Rattle.fsck_check.specs.Sums.{UnitSum, unit_sums_from, extent_places, shard_places, HasSum, HasOther, FindsBadSums, AddsSums, IsUnitIn}
 
 module _ (held : ℕ → List ℕ → Type 0) where
-  pub sums_joined : (ps qs : List UnitSum) (a b : List Finding) → AreSums held ps a → AreSums held qs b → AreSums held (ps ++ qs) (a ++ b)
-  sums_joined [] qs a b none more = subst (λ (l : List Finding). AreSums held qs (l ++ b)) (sym none) more
+  pub sums_joined : (ps qs : List UnitSum) (a b : List Finding) → FindsBadSums held ps a → FindsBadSums held qs b → FindsBadSums held (ps ++ qs) (a ++ b)
+  sums_joined [] qs a b none more = subst (λ (l : List Finding). FindsBadSums held qs (l ++ b)) (sym none) more
   sums_joined (p ∷ ps) qs a b (inl has) more = inl (has.0, sums_joined ps qs a b has.1 more)
   sums_joined (p ∷ ps) qs a b (inr has) more =
       inr (has.0, has.1 ++ b, ap (λ (l : List Finding). l ++ b) has.2, has.3, sums_joined ps qs has.1 b has.4 more)
@@ -34,7 +34,7 @@ module _ (held : ℕ → List ℕ → Type 0) where
 
 -- what holds of what one relation holds
 pub sums_as : (held other : ℕ → List ℕ → Type 0) → ((unit : ℕ) (bytes : List ℕ) → held unit bytes → other unit bytes) → (ps : List UnitSum) (out : List Finding)
-    → AreSums held ps out → AreSums other ps out
+    → FindsBadSums held ps out → FindsBadSums other ps out
 sums_as held other more [] out none = none
 sums_as held other more (p ∷ ps) out (inl has) = inl ((has.0.0, (more p.0 has.0.0 has.0.1.0, has.0.1.1)), sums_as held other more ps out has.1)
 sums_as held other more (p ∷ ps) out (inr has) = inr (
@@ -51,23 +51,23 @@ adds_as held other more ps x y adds = (adds.0, adds.1, sums_as held other more p
 
 -- ---- consecutive units
 
-pub places_joined : (unit : ℕ) (a b : List ℕ) → places_from unit (a ++ b) ≡ places_from unit a ++ places_from (unit + length a) b
-places_joined unit [] b = let same : unit ≡ unit + 0 = omega arith in ap (λ u. places_from u b) same
+pub places_joined : (unit : ℕ) (a b : List ℕ) → unit_sums_from unit (a ++ b) ≡ unit_sums_from unit a ++ unit_sums_from (unit + length a) b
+places_joined unit [] b = let same : unit ≡ unit + 0 = omega arith in ap (λ u. unit_sums_from u b) same
 places_joined unit (k ∷ a) b =
     let same : (unit + 1) + length a ≡ unit + length (k ∷ a) = omega arith in
-    ap (λ (l : List UnitSum). (unit, k) ∷ l) (places_joined (unit + 1) a b ∙ ap (λ u. places_from (unit + 1) a ++ places_from u b) same)
+    ap (λ (l : List UnitSum). (unit, k) ∷ l) (places_joined (unit + 1) a b ∙ ap (λ u. unit_sums_from (unit + 1) a ++ unit_sums_from u b) same)
 
 -- one unit more
 pub place_more : (held : ℕ → List ℕ → Type 0) (at i : ℕ) (kept : List ℕ) (x y z : List Finding) → i < length kept
-    → AddsSums held (places_from at (take i kept)) x y → AddsSums held ((at + i, get_or kept i 0) ∷ []) y z → AddsSums held (places_from at (take (i + 1) kept)) x z
+    → AddsSums held (unit_sums_from at (take i kept)) x y → AddsSums held ((at + i, get_or kept i 0) ∷ []) y z → AddsSums held (unit_sums_from at (take (i + 1) kept)) x z
 place_more held at i kept x y z lt before one =
     let long : length (take i kept) ≡ i = omega (arith, length-take i kept) in
-    let list = ap (places_from at) (take_more kept i 0 lt) ∙ places_joined at (take i kept) (get_or kept i 0 ∷ [])
-    ∙ ap (λ n. places_from at (take i kept) ++ (at + n, get_or kept i 0) ∷ []) long in
-    subst (λ (l : List UnitSum). AddsSums held l x z) (sym list) (adds_joined held (places_from at (take i kept)) ((at + i, get_or kept i 0) ∷ []) x y z before one)
+    let list = ap (unit_sums_from at) (take_more kept i 0 lt) ∙ places_joined at (take i kept) (get_or kept i 0 ∷ [])
+    ∙ ap (λ n. unit_sums_from at (take i kept) ++ (at + n, get_or kept i 0) ∷ []) long in
+    subst (λ (l : List UnitSum). AddsSums held l x z) (sym list) (adds_joined held (unit_sums_from at (take i kept)) ((at + i, get_or kept i 0) ∷ []) x y z before one)
 
 -- a unit among those that were read
-pub read_unit : (at count i : ℕ) (bytes : List ℕ) → IsUnits count bytes → i < count → IsIn at count bytes (at + i) (unit_at i bytes)
+pub read_unit : (at count i : ℕ) (bytes : List ℕ) → IsUnits count bytes → i < count → IsUnitIn at count bytes (at + i) (unit_at i bytes)
 read_unit at count i bytes whole lt = (i, lt, refl, refl, length-unit_at i bytes (omega (arith, whole, lt)))
 
 held_unit : (d : Disk) (at count i : ℕ) (bytes : List ℕ) → HasRead d at count bytes → i < count → IsHeldAt d (at + i) (unit_at i bytes)
@@ -78,7 +78,7 @@ held_unit d at count i bytes read lt = by d.history read.units
     by None units = tt
     by (Some h) units = units i lt
 
-pub held_read : (d : Disk) (at count : ℕ) (bytes : List ℕ) → HasRead d at count bytes → (unit : ℕ) (b : List ℕ) → IsIn at count bytes unit b → IsHeldAt d unit b
+pub held_read : (d : Disk) (at count : ℕ) (bytes : List ℕ) → HasRead d at count bytes → (unit : ℕ) (b : List ℕ) → IsUnitIn at count bytes unit b → IsHeldAt d unit b
 held_read d at count bytes read unit b is =
     subst (λ u. IsHeldAt d u b) (sym is.2) (subst (IsHeldAt d (at + is.0)) (sym is.3) (held_unit d at count is.0 bytes read is.1))
 
@@ -97,10 +97,10 @@ inside unit at n units csums done left split is few fits =
     let long : length csums ≡ length done + length left = ap length split ∙ length-append done left in omega (arith, long, is, few, fits)
 
 pub piece_more : (held : ℕ → List ℕ → Type 0) (unit at : ℕ) (done front : List ℕ) (x y z : List Finding) → at ≡ unit + length done
-    → AddsSums held (places_from unit done) x y → AddsSums held (places_from at front) y z → AddsSums held (places_from unit (done ++ front)) x z
+    → AddsSums held (unit_sums_from unit done) x y → AddsSums held (unit_sums_from at front) y z → AddsSums held (unit_sums_from unit (done ++ front)) x z
 piece_more held unit at done front x y z is before more =
     subst (λ (l : List UnitSum). AddsSums held l x z) (sym (places_joined unit done front))
-    (adds_joined held (places_from unit done) (places_from (unit + length done) front) x y z before (subst (λ a. AddsSums held (places_from a front) y z) is more))
+    (adds_joined held (unit_sums_from unit done) (unit_sums_from (unit + length done) front) x y z before (subst (λ a. AddsSums held (unit_sums_from a front) y z) is more))
 
 -- ---- the extents of a shard
 

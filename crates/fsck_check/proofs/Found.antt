@@ -9,7 +9,7 @@ use Rattle.ordered_lists.specs.Lists.{IsIn, Ascend, ListsAll}
 use Rattle.ordered_lists.proofs.Joining.{each_in, all_as}
 use Rattle.findings.specs.declared.finding.Finding.{Finding}
 use Rattle.findings.specs.Findings.{PageSum, ComesBefore, IsBadSum, bad_sum}
-use Rattle.fsck_check.specs.Sums.{HasSum, HasOther, AreSums, FindsSums}
+use Rattle.fsck_check.specs.Sums.{HasSum, HasOther, FindsBadSums, FindsSums}
 use Rattle.fsck_check.proofs.Pages.{unit_sum, at_page}
 
 module _ (held : ℕ → List ℕ → Type 0) where
@@ -42,7 +42,7 @@ module _ (held : ℕ → List ℕ → Type 0) where
   judged_more p pages q (inl has) = inl has
   judged_more p pages q (inr listed) = inr (listed.0, inr listed.1)
 
-  split : (mapped : List PageSum) (out : List Finding) → Ascend ComesBefore mapped → AreSums held (map unit_sum mapped) out → Split mapped out
+  split : (mapped : List PageSum) (out : List Finding) → Ascend ComesBefore mapped → FindsBadSums held (map unit_sum mapped) out → Split mapped out
   split [] out up none = record { pages = []; is = none; ascend = tt; from = tt; judged = tt }
   split (q ∷ mapped) out up (inl has) =
       let rest = split mapped out up.1 has.1 in
@@ -85,7 +85,7 @@ module _ (s : Super) (held : ℕ → List ℕ → Type 0) (rows : Rows) (IsMappe
     differs = f.other.differs;
   })
 
-  pub finds_sums : (mapped : List PageSum) (out : List Finding) → ListsAll ComesBefore IsMapped mapped → AreSums held (map unit_sum mapped) out
+  pub finds_sums : (mapped : List PageSum) (out : List Finding) → ListsAll ComesBefore IsMapped mapped → FindsBadSums held (map unit_sum mapped) out
       → FindsSums (width_of s) held rows out
   finds_sums mapped out lists sums =
       let parts = split held mapped out lists.ascend sums in (

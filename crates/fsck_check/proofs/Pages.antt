@@ -6,7 +6,7 @@ use Rattle.ordered_lists.specs.Lists.{ListsAll}
 use Rattle.ordered_lists.proofs.Joining.{lists_none, lists_one, lists_joined}
 use Rattle.row_check.proofs.RunMarks.{place_cases, first_has, later_has, page_from}
 use Rattle.findings.specs.Findings.{PageSum, ComesBefore}
-use Rattle.fsck_check.specs.Sums.{UnitSum, places_from, body_places, shard_places}
+use Rattle.fsck_check.specs.Sums.{UnitSum, unit_sums_from, body_places, shard_places}
 
 -- a page on a unit, of which nothing was found yet
 abbrev pub at_page : List ℕ → List ℕ → ℕ → ℕ → ℕ → PageSum
@@ -28,7 +28,7 @@ module _ (c o : List ℕ) where
   shard_pages [] = []
   shard_pages (e ∷ es) = body_pages e.first e.body ++ shard_pages es
 
-  run_places : (page unit : ℕ) (ks : List ℕ) → map unit_sum (run_pages page unit ks) ≡ places_from unit ks
+  run_places : (page unit : ℕ) (ks : List ℕ) → map unit_sum (run_pages page unit ks) ≡ unit_sums_from unit ks
   run_places page unit [] = refl
   run_places page unit (k ∷ ks) = ap (λ (l : List UnitSum). (unit, k) ∷ l) (run_places (page + 1) (unit + 1) ks)
 

@@ -1,5 +1,5 @@
 -- The pages of the rows before a place, in their order.
-use Rattle.std.proofs.Common.{◌≡◌, ◌⊎◌, inl, inr, ℕ, ◌+◌, ◌<◌, ◌≤◌, List, [], ◌∷◌, ◌++◌, length, get_or, map, refl, sym, subst, ◌∙◌, arith}
+use Rattle.std.proofs.Common.{◌≡◌, ◌⊎◌, inl, inr, ℕ, ◌+◌, ◌<◌, ◌≤◌, List, [], ◌∷◌, ◌++◌, length, get_or, map, refl, sym, ap, subst, ◌∙◌, arith}
 use Rattle.std.specs.Ordering.{ordering_then}
 use Rattle.std.specs.declared.cmp.Ordering.{Ordering}
 use Rattle.std.specs.declared.cmp.Ordering.TheVariants.{Less, Equal, Greater}
@@ -13,16 +13,17 @@ use Rattle.unit_fields.specs.declared.width.Width.{Width}
 use Rattle.meta_rows.specs.Prelude.{Rows}
 use Rattle.meta_log.specs.declared.slot.Super.{Super}
 use Rattle.meta_log.specs.Prelude.{width_of}
-use Rattle.row_format.specs.Prelude.{shard_key, Extent, own, shard}
+use Rattle.row_format.specs.Prelude.{shard_key, Extent, own, place_of, shard}
 use Rattle.row_format.specs.Row as format
+use Rattle.row_format.proofs.Prelude.{is_shard_or_none}
 use Rattle.store_image.specs.Prelude.{HasRow, HasShard, IsShardInPlace, IsPageOn, NoBadRow}
 use Rattle.store_image.proofs.Prelude.{in_place, on_own, own_of}
 use Rattle.row_reading.specs.Reading.{SpellsRow}
 use Rattle.row_reading.proofs.Entries.{AreRows, rising}
 use Rattle.row_reading.proofs.KeyOrder.{lesser_page}
-use Rattle.object_reader.proofs.NamesOrder.{ended}
+use Rattle.object_rows.proofs.NamesOrder.{ended}
 use Rattle.row_check.proofs.Walk.{has_spelled}
-use Rattle.row_check.proofs.MarkedRows.{RowAt, same_spelled}
+use Rattle.row_check.proofs.MarkedRows.{RowAt, same_spelled, row_ascends}
 use Rattle.row_check.proofs.RunMarks.{page_below, page_of_shard}
 use Rattle.ordered_lists.specs.Lists.{ListsAll}
 use Rattle.ordered_lists.proofs.Joining.{lists_none, lists_joined, lists_as}
@@ -33,21 +34,20 @@ use Rattle.fsck_check.proofs.Pages.{unit_sum, shard_pages, places_are, InShard, 
 -- ---- rows
 
 abbrev pub row_pages : format.Row → List PageSum
-row_pages (format.shard c o page es) = shard_pages c o es
-row_pages _ = []
+row_pages row = shard_pages (format.shard_in row).coll (format.shard_in row).object (format.shard_in row).extents
 
 pub row_places_are : (row : format.Row) → map unit_sum (row_pages row) ≡ row_places row
-row_places_are (format.shard c o page es) = places_are c o es
-row_places_are (format.collection c) = refl
-row_places_are (format.onode c o size) = refl
-row_places_are (format.attribute c o name value) = refl
-row_places_are (format.omap_header c o value) = refl
-row_places_are (format.omap_pair c o key value) = refl
-row_places_are (format.bitmap r bits) = refl
+row_places_are row = places_are (format.shard_in row).coll (format.shard_in row).object (format.shard_in row).extents
 
 abbrev pub InRow : format.Row → PageSum → Type 0
-InRow (format.shard c o page es) p = InShard c o es p
-InRow _ p = ⊥
+InRow row = InShard (format.shard_in row).coll (format.shard_in row).object (format.shard_in row).extents
+
+-- then the row is a shard
+in_shard : (row : format.Row) (p : PageSum) → InRow row p → row ≡ format.as_row (format.shard_in row)
+in_shard row p has = elim (is_shard_or_none row) [
+  | inl is ↦ is
+  | inr none ↦ absurd (let found = sym (ap (λ (x : format.ShardRow). place_of x.extents p.page) none) ∙ has.place in cc)
+]
 
 -- the page is one of a row before this place
 pub record InRowsTo (w : Width) (es : List (List ℕ × List ℕ)) (i : ℕ) (p : PageSum) : Type 0 where
@@ -113,28 +113,14 @@ module _ (s : Super) (rows : Rows) (good : NoBadRow s rows) where
 
   rows_apart : (a b : format.Row) (x y : PageSum) → HasRow (width_of s) rows a → HasRow (width_of s) rows b → byte_order (format.row_key a) (format.row_key b) ≡ Less
       → InRow a x → InRow b y → ComesBefore x y
-  rows_apart (format.shard c o page es) (format.shard d u other fs) x y has later less p q = shards_apart c o d u page other es fs x y has later less p q
-  rows_apart (format.shard c o page es) (format.collection d) x y has later less p q = absurd q
-  rows_apart (format.shard c o page es) (format.onode d u size) x y has later less p q = absurd q
-  rows_apart (format.shard c o page es) (format.attribute d u n v) x y has later less p q = absurd q
-  rows_apart (format.shard c o page es) (format.omap_header d u v) x y has later less p q = absurd q
-  rows_apart (format.shard c o page es) (format.omap_pair d u k v) x y has later less p q = absurd q
-  rows_apart (format.shard c o page es) (format.bitmap r bits) x y has later less p q = absurd q
-  rows_apart (format.collection d) b x y has later less p q = absurd p
-  rows_apart (format.onode d u size) b x y has later less p q = absurd p
-  rows_apart (format.attribute d u n v) b x y has later less p q = absurd p
-  rows_apart (format.omap_header d u v) b x y has later less p q = absurd p
-  rows_apart (format.omap_pair d u k v) b x y has later less p q = absurd p
-  rows_apart (format.bitmap r bits) b x y has later less p q = absurd p
+  rows_apart a b x y has later less p q =
+      let a_is = in_shard a x p in
+      let b_is = in_shard b y q in
+      shards_apart _ _ _ _ _ _ _ _ x y (subst (HasRow (width_of s) rows) a_is has) (subst (HasRow (width_of s) rows) b_is later)
+      (sym (λ i. byte_order (format.row_key (a_is i)) (format.row_key (b_is i))) ∙ less) p q
 
   pub row_lists : (row : format.Row) → HasRow (width_of s) rows row → ListsAll ComesBefore (InRow row) (row_pages row)
-  row_lists (format.shard c o page es) has = shard_lists c o es (placed c o page es has).ascend
-  row_lists (format.collection d) has = lists_none ComesBefore _ (λ p is. is)
-  row_lists (format.onode d u size) has = lists_none ComesBefore _ (λ p is. is)
-  row_lists (format.attribute d u n v) has = lists_none ComesBefore _ (λ p is. is)
-  row_lists (format.omap_header d u v) has = lists_none ComesBefore _ (λ p is. is)
-  row_lists (format.omap_pair d u k v) has = lists_none ComesBefore _ (λ p is. is)
-  row_lists (format.bitmap r bits) has = lists_none ComesBefore _ (λ p is. is)
+  row_lists row has = shard_lists (format.shard_in row).coll (format.shard_in row).object (format.shard_in row).extents (row_ascends s rows good row has)
 
   module _ (es : List (List ℕ × List ℕ)) (are : AreRows rows es) (i : ℕ) where
     -- the pages of one row more
@@ -165,21 +151,23 @@ module _ (s : Super) (rows : Rows) (good : NoBadRow s rows) where
       pub fresh : p.found ≡ 0
 
     mapped : (p : PageSum) → InRowsTo (width_of s) es i p → IsMapped p
-    mapped p is = by is.row (has_spelled (width_of s) rows es are is.at ([], []) is.row is.within (is.stands ([], []))) is.has
-      where
-        by : (row : format.Row) → HasRow (width_of s) rows row → InRow row p → IsMapped p
-        by (format.shard c o page fs) has q = record {
+    mapped p is =
+        let q = is.has in
+        let has = has_spelled (width_of s) rows es are is.at ([], []) is.row is.within (is.stands ([], [])) in
+        let there = subst (HasRow (width_of s) rows) (in_shard is.row p q) has in
+        let c = (format.shard_in is.row).coll in
+        let o = (format.shard_in is.row).object in
+        record {
           on = subst (λ n. IsPageOn (width_of s) rows n p.object p.page (record { unit = p.unit; csum = p.kept })) (sym q.coll)
               (subst (λ n. IsPageOn (width_of s) rows c n p.page (record { unit = p.unit; csum = p.kept })) (sym q.object)
-              (on_own (width_of s) rows c o p.page p.unit p.kept (record { first = page; extents = fs; has_shard = has; has_page = q.place })));
+              (on_own (width_of s) rows c o p.page p.unit p.kept (record {
+                first = (format.shard_in is.row).page;
+                extents = (format.shard_in is.row).extents;
+                has_shard = there;
+                has_page = q.place;
+              })));
           fresh = q.fresh;
         }
-        by (format.collection d) has q = absurd q
-        by (format.onode d u size) has q = absurd q
-        by (format.attribute d u n v) has q = absurd q
-        by (format.omap_header d u v) has q = absurd q
-        by (format.omap_pair d u k v) has q = absurd q
-        by (format.bitmap r bits) has q = absurd q
 
     unmapped : length es ≤ i → (p : PageSum) → IsMapped p → InRowsTo (width_of s) es i p
     unmapped le p is =

@@ -1,14 +1,15 @@
 -- The pages of the row that a key and a value spell.
-use Rattle.std.proofs.Common.{◌≡◌, ℕ, List, true, false, Option, Some, Result, Ok, Err, refl, subst}
+use Rattle.std.proofs.Common.{◌≡◌, ℕ, List, true, false, inl, inr, Option, Some, Result, Ok, Err, refl, sym, subst}
 use Rattle.std.specs.Prelude.{OnOk, MatchOption}
 use Rattle.unit_fields.specs.declared.width.Width.{Width}
 use Rattle.row_format.specs.Prelude.{Extent}
 use Rattle.onode_codec.specs.Reading.{SpellExtents}
 use Rattle.row_format.specs.Row as format
+use Rattle.row_format.proofs.Prelude.{is_shard_or_none}
 use Rattle.onode_codec.proofs.Again.{same_extents}
 use Rattle.row_check.specs.Marks.{AllEndBy}
 use Rattle.row_check.specs.Owned.{SpellsRowWithin, TellsShard}
-use Rattle.row_check.proofs.MarkedRows.{shard_below}
+use Rattle.row_check.proofs.MarkedRows.{shard_below, spelled_shard}
 use Rattle.findings.specs.declared.finding.Finding.{Finding}
 use Rattle.fsck_check.specs.Sums.{shard_places, AddsSums, AddsRowSums}
 use Rattle.fsck_check.proofs.Adding.{adds_none}
@@ -23,23 +24,15 @@ shard_inside w key value units es within told spelled =
 module _ (w : Width) (held : ℕ → List ℕ → Type 0) (key value : List ℕ) where
   pub shard_added : (es : List Extent) (x y : List Finding) → TellsShard w key value true → SpellExtents w value es → AddsSums held (shard_places es) x y
       → AddsRowSums w held key value x y
-  shard_added es x y told spelled adds (format.collection c) s = absurd ((told (format.collection c) s).0 refl)
-  shard_added es x y told spelled adds (format.onode c o size) s = absurd ((told (format.onode c o size) s).0 refl)
-  shard_added es x y told spelled adds (format.shard c o page fs) s =
-      subst (λ (l : List Extent). AddsSums held (shard_places l) x y) (same_extents w value es fs spelled (record { fit = s.fits.fit; spelled = s.value_is })) adds
-  shard_added es x y told spelled adds (format.attribute c o name v) s = absurd ((told (format.attribute c o name v) s).0 refl)
-  shard_added es x y told spelled adds (format.omap_header c o v) s = absurd ((told (format.omap_header c o v) s).0 refl)
-  shard_added es x y told spelled adds (format.omap_pair c o k v) s = absurd ((told (format.omap_pair c o k v) s).0 refl)
-  shard_added es x y told spelled adds (format.bitmap r bits) s = absurd ((told (format.bitmap r bits) s).0 refl)
+  shard_added es x y told spelled adds row s =
+      let same = same_extents w value es _ spelled (spelled_shard w key value row ((told row s).0 refl) s) in
+      subst (λ (l : List Extent). AddsSums held (shard_places l) x y) same adds
 
   pub no_shard_added : (x : List Finding) → TellsShard w key value false → AddsRowSums w held key value x x
-  no_shard_added x told (format.collection c) s = adds_none held x
-  no_shard_added x told (format.onode c o size) s = adds_none held x
-  no_shard_added x told (format.shard c o page fs) s = absurd (let is = (told (format.shard c o page fs) s).1 tt in cc)
-  no_shard_added x told (format.attribute c o name v) s = adds_none held x
-  no_shard_added x told (format.omap_header c o v) s = adds_none held x
-  no_shard_added x told (format.omap_pair c o k v) s = adds_none held x
-  no_shard_added x told (format.bitmap r bits) s = adds_none held x
+  no_shard_added x told row s = elim (is_shard_or_none row) [
+    | inl is ↦ absurd (let never = (told row s).1 is in cc)
+    | inr none ↦ subst (λ (y : format.ShardRow). AddsSums held (shard_places y.extents) x x) (sym none) (adds_none held x)
+  ]
 
 pub on_ok : {A E : Type 0} (r : Result A E) (P Q : Type 0) → (P → Q) → OnOk r P → OnOk r Q
 on_ok (Ok x) P Q more p = more p

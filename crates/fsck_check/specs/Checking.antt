@@ -37,10 +37,10 @@ FailsFsck NoSuper d before now = IsAbout d HasNoSuper
 FailsFsck Fault d before now = Rose before now
 
 -- The cause, once a store was found.
-abbrev pub IsCause : ℕ → ℕ → FsckFail → Type 0
-IsCause before now Memory = Unit {0}
-IsCause before now NoSuper = ⊥
-IsCause before now Fault = Rose before now
+abbrev pub IsFsckCause : ℕ → ℕ → FsckFail → Type 0
+IsFsckCause before now Memory = Unit {0}
+IsFsckCause before now NoSuper = ⊥
+IsFsckCause before now Fault = Rose before now
 
 -- the findings of units that are leaked, unmarked or doubled
 abbrev pub found_units : List ℕ → List ℕ → List ℕ → List Finding

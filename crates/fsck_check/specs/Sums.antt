@@ -17,12 +17,12 @@ abbrev pub UnitSum : Type 0
 UnitSum = ℕ × ℕ
 
 -- consecutive units with these checksums
-abbrev pub places_from : ℕ → List ℕ → List UnitSum
-places_from unit [] = []
-places_from unit (csum ∷ csums) = (unit, csum) ∷ places_from (unit + 1) csums
+abbrev pub unit_sums_from : ℕ → List ℕ → List UnitSum
+unit_sums_from unit [] = []
+unit_sums_from unit (csum ∷ csums) = (unit, csum) ∷ unit_sums_from (unit + 1) csums
 
 abbrev pub body_places : Body → List UnitSum
-body_places (private unit csums) = places_from unit csums
+body_places (private unit csums) = unit_sums_from unit csums
 
 abbrev pub extent_places : Extent → List UnitSum
 extent_places e = body_places e.body
@@ -32,8 +32,7 @@ shard_places es = flat_map extent_places es
 
 -- the places of a row, if it is a shard
 abbrev pub row_places : format.Row → List UnitSum
-row_places (format.shard c o page es) = shard_places es
-row_places _ = []
+row_places row = shard_places (format.shard_in row).extents
 
 -- the unit holds bytes with the checksum
 abbrev pub HasSum : (ℕ → List ℕ → Type 0) → UnitSum → Type 0
@@ -48,22 +47,22 @@ pub record HasOther (held : ℕ → List ℕ → Type 0) (p : UnitSum) (found : 
   pub differs : found ≢ p.1
 
 -- a finding for each of these units that holds bytes with another checksum, in their order; each other one holds bytes with its own
-abbrev pub AreSums : (ℕ → List ℕ → Type 0) → List UnitSum → List Finding → Type 0
-AreSums held [] out = out ≡ []
-AreSums held (p ∷ ps) out = (HasSum held p × AreSums held ps out)
-    ⊎ ((found : ℕ) × (rest : List Finding) × (out ≡ BadSum p.0 p.1 found ∷ rest) × HasOther held p found × AreSums held ps rest)
+abbrev pub FindsBadSums : (ℕ → List ℕ → Type 0) → List UnitSum → List Finding → Type 0
+FindsBadSums held [] out = out ≡ []
+FindsBadSums held (p ∷ ps) out = (HasSum held p × FindsBadSums held ps out)
+    ⊎ ((found : ℕ) × (rest : List Finding) × (out ≡ BadSum p.0 p.1 found ∷ rest) × HasOther held p found × FindsBadSums held ps rest)
 
 -- these were added to others
 abbrev pub AddsSums : (ℕ → List ℕ → Type 0) → List UnitSum → List Finding → List Finding → Type 0
-AddsSums held places old new = (out : List Finding) × (new ≡ old ++ out) × AreSums held places out
+AddsSums held places old new = (out : List Finding) × (new ≡ old ++ out) × FindsBadSums held places out
 
 -- so were those of the row that a key and a value spell
 abbrev pub AddsRowSums : Width → (ℕ → List ℕ → Type 0) → List ℕ → List ℕ → List Finding → List Finding → Type 0
 AddsRowSums w held key value old new = (row : format.Row) → SpellsRow w key value row → AddsSums held (row_places row) old new
 
 -- so many units from one on hold these bytes, one behind the other
-abbrev pub IsIn : ℕ → ℕ → List ℕ → ℕ → List ℕ → Type 0
-IsIn at count bytes unit b = (i : ℕ) × (i < count) × (unit ≡ at + i) × (b ≡ unit_at i bytes) × (length b ≡ 4096)
+abbrev pub IsUnitIn : ℕ → ℕ → List ℕ → ℕ → List ℕ → Type 0
+IsUnitIn at count bytes unit b = (i : ℕ) × (i < count) × (unit ≡ at + i) × (b ≡ unit_at i bytes) × (length b ≡ 4096)
 
 -- these are the findings of bad pages
 abbrev pub FindsSums : Width → (ℕ → List ℕ → Type 0) → Rows → List Finding → Type 0

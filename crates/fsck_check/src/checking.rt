@@ -6,7 +6,7 @@ ghost use Rattle.read_facts.specs.Prelude.{IsHeldAt};
 ghost use Rattle.findings.specs.Findings.{FindsNoBadRow};
 ghost use Rattle.findings.specs.declared.finding.Finding.TheVariants as kinds;
 ghost use Rattle.log_replay.specs.Opening.{IsUnfound};
-ghost use Rattle.fsck_check.specs.Checking.{FoundAll, FailsFsck, IsCause, found_units, fsck_fail_of_mount};
+ghost use Rattle.fsck_check.specs.Checking.{FoundAll, FailsFsck, IsFsckCause, found_units, fsck_fail_of_mount};
 
 use crate::FsckFail;
 use crate::sums::bad_sums;
@@ -93,7 +93,7 @@ fn pages_and_units<D: Device>(
     requires good { NoBadRow store.now.sup store.now.log.rows.rows }
     ensures same { D.disk dev.new ≡ D.disk dev.old }
     ensures found { IfOk result (λ found. FindsNoBadRow store.now.sup (IsHeldAt (D.disk dev.old)) store.now.log.rows.rows found.items) }
-    ensures fails { IfErr result (IsCause (D.faults dev.old) (D.faults dev.new)) }
+    ensures fails { IfErr result (IsFsckCause (D.faults dev.old) (D.faults dev.new)) }
     ensures later { D.faults dev.old ≤ D.faults dev.new }
 {
     let sums = bad_sums(alloc, dev, &store.sup, &store.log.rows)?;

@@ -8,7 +8,7 @@ ghost use Rattle.store_image.specs.Prelude.{NoBadRow};
 ghost use Rattle.read_facts.specs.Prelude.{IsHeldAt};
 ghost use Rattle.row_check.specs.Marks.{EndsBy, AllEndBy};
 ghost use Rattle.row_check.specs.Owned.{SpellsRowWithin};
-ghost use Rattle.fsck_check.specs.Sums.{IsIn, places_from, extent_places, shard_places, AddsSums, AddsRowSums, FindsSums};
+ghost use Rattle.fsck_check.specs.Sums.{IsUnitIn, unit_sums_from, extent_places, shard_places, AddsSums, AddsRowSums, FindsSums};
 
 use block_device::{Device, Failed};
 use byte_maps::Items;
@@ -20,10 +20,10 @@ use onode_codec::{Body, Extent, decode_extents};
 use row_check::is_shard;
 use std::alloc::{AllocError, Global};
 use unit_fields::Width;
-use unit_fields::limits::UNIT_BYTES;
+use unit_fields::limits::{PIECE_UNITS, UNIT_BYTES};
 
 // The most units of one read.
-const MOST_UNITS: usize = 64;
+const READ_UNITS: usize = PIECE_UNITS as usize;
 
 fn unit_of(bytes: &[u8], i: usize) -> &[u8]
     requires { 4096 * i + 4096 ≤ length bytes.now }
@@ -41,7 +41,7 @@ fn compare(
 ) -> Result<(), AllocError>
     requires whole { IsUnits (length kept.now) bytes.now }
     requires fits { at + length kept.now ≤ 2 ^ 32 }
-    ensures { OnOk result (AddsSums (IsIn at (length kept.now) bytes.now) (places_from at kept.now) found.old found.new) }
+    ensures { OnOk result (AddsSums (IsUnitIn at (length kept.now) bytes.now) (unit_sums_from at kept.now) found.old found.new) }
 {
     for i in 0..kept.len() {
         let sum = crc32c(unit_of(bytes, i));
@@ -71,7 +71,7 @@ fn check_run<D: Device>(
     requires fits { at + length kept.now ≤ 2 ^ 32 }
     requires few { length kept.now < 2 ^ 32 }
     ensures same { D.disk dev.new ≡ D.disk dev.old }
-    ensures sums { OnOk result (AddsSums (IsHeldAt (D.disk dev.old)) (places_from at kept.now) found.old found.new) }
+    ensures sums { OnOk result (AddsSums (IsHeldAt (D.disk dev.old)) (unit_sums_from at kept.now) found.old found.new) }
     ensures later { D.faults dev.old ≤ D.faults dev.new }
     ensures cause { IsErrOf result Failed.Fault → Rose (D.faults dev.old) (D.faults dev.new) }
 {
@@ -94,14 +94,14 @@ fn check_units<D: Device>(
     requires units { (D.disk dev.old).units ≤ 1048576 }
     requires inside { unit + length csums.now ≤ (D.disk dev.old).units }
     ensures same { D.disk dev.new ≡ D.disk dev.old }
-    ensures sums { OnOk result (AddsSums (IsHeldAt (D.disk dev.old)) (places_from unit csums.now) found.old found.new) }
+    ensures sums { OnOk result (AddsSums (IsHeldAt (D.disk dev.old)) (unit_sums_from unit csums.now) found.old found.new) }
     ensures later { D.faults dev.old ≤ D.faults dev.new }
     ensures cause { IsErrOf result Failed.Fault → Rose (D.faults dev.old) (D.faults dev.new) }
 {
     let mut at = unit;
     let mut left = csums;
     'pieces: while !left.is_empty() {
-        let (piece, rest) = left.split_at(left.len().min(MOST_UNITS));
+        let (piece, rest) = left.split_at(left.len().min(READ_UNITS));
         check_run(dev, at, piece, buffer, found)?;
         at += piece.len() as u32;
         left = rest;

@@ -1,32 +1,18 @@
 //! Reads that the kernel answers.
-ghost use Rattle.std.specs.Prelude.{◌↔◌, IsTrue, IfOk};
-ghost use Rattle.read_facts.specs.Prelude.{IsKnownRead};
-
 use block_device::MemoryDevice;
 use case_text::{CaseError, Text, Words, print_bytes};
 use object_lines::question as question_of;
-use object_model::{Answer, Command};
+use object_model::{Answer, Read};
 use plain_reader::coll_of;
 use std::alloc::Global;
 use store_kernel::{Kernel, Unanswered};
 
-fn is_read(command: &Command) -> bool
-    ensures { IsTrue result ↔ IsKnownRead command.now }
-{
-    !matches!(command, Command::Change(_))
-}
-
 /// The read of these words: a collection, and a read in the words of the reference store's cases.
-pub fn question(alloc: Global, mut words: Words<'_>) -> Result<Command, CaseError>
-    ensures { IfOk result (λ command. IsKnownRead command) }
-{
+pub fn question(alloc: Global, mut words: Words<'_>) -> Result<Read, CaseError> {
     let coll = coll_of(alloc, words.next()?.as_bytes())?;
     match question_of(alloc, &coll, words.text())? {
-        Some(command) if is_read(&command) => Ok(command),
-        other => {
-            drop(other);
-            Err(CaseError::Line("no read"))
-        }
+        Some(read) => Ok(read),
+        None => Err(CaseError::Line("no read")),
     }
 }
 
@@ -76,11 +62,9 @@ fn print_unanswered(why: &Unanswered, out: &mut Text) {
 pub fn answered(
     alloc: Global,
     kernel: &mut Kernel<MemoryDevice>,
-    command: Command,
-) -> Result<u32, Unanswered>
-    requires { IsKnownRead command }
-{
-    kernel.ask(alloc, 3, 7, command)
+    read: Read,
+) -> Result<u32, Unanswered> {
+    kernel.ask(alloc, 3, 7, read)
 }
 
 /// Follows `ask COLL READ`, from its second word on.
@@ -90,8 +74,8 @@ pub fn ask(
     words: Words<'_>,
     out: &mut Text,
 ) -> Result<(), CaseError> {
-    let command = question(alloc, words)?;
-    match answered(alloc, kernel, command) {
+    let read = question(alloc, words)?;
+    match answered(alloc, kernel, read) {
         Ok(place) => print_entry(kernel, place, out),
         Err(why) => {
             print_unanswered(&why, out);

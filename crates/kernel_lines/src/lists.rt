@@ -163,8 +163,8 @@ impl List {
         let coll = self.draws.word(&COLLS);
         let name = self.draws.word(&NAMES);
         let line = format!(in self.alloc; "{coll} sum {name}")?;
-        let command = question(self.alloc, Words::new(line.as_str()))?;
-        match answered(self.alloc, &mut self.mounted.kernel, command) {
+        let read = question(self.alloc, Words::new(line.as_str()))?;
+        match answered(self.alloc, &mut self.mounted.kernel, read) {
             Ok(place) => self.note(place, coll, name),
             Err(why) => {
                 drop(why);

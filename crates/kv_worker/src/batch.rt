@@ -1,11 +1,11 @@
 //! The batch, and its way into the log.
-ghost use Rattle.std.specs.Prelude.{◌≡◌, ◌-◌, ◌≤◌, ◌++◌, ◌∷◌, [], length, map, MatchOption, OnOk, OnErr, IfOk, IfErr};
+ghost use Rattle.std.specs.Prelude.{◌≡◌, ◌-◌, ◌≤◌, ◌++◌, length, map, OnOk, OnErr, IfOk, IfErr};
 ghost use Rattle.std.specs.List.{flat_map};
 ghost use Rattle.meta_store.specs.Store.{with_begun};
 ghost use Rattle.store_steps.specs.Prelude.{most_grouped, choice, sum_needs, log_after};
 ghost use Rattle.txn_states.specs.States.{committed_of};
 ghost use Rattle.waiting_contexts.specs.Choices.{IsChoiceOf};
-ghost use Rattle.kv_worker.specs.Batches.{flushed_batch, ops_of, Takes, CanSeal, CanCommit};
+ghost use Rattle.kv_worker.specs.Batches.{flushed_batch, ops_of_batch, TakesBatch, CanSeal, CanCommit};
 
 use byte_maps::Duplicate;
 use meta_log::SealedRecord;
@@ -13,7 +13,7 @@ use meta_rows::RowOp;
 use meta_store::MetaStore;
 use std::alloc::{AllocError, Global};
 use std::marker::Model;
-use txn_states::{Committed, Queued};
+use txn_states::Queued;
 use waiting_contexts::{Choice, Contexts};
 
 // The most transactions of a batch.
@@ -115,7 +115,7 @@ impl Batch {
     /// runs out the batch comes back, and the store is as it was. (Ceph: the write batch that `_kv_sync_thread` submits.)
     pub fn seal(self, alloc: Global, meta: &mut MetaStore) -> Result<SealedBatch, Batch>
         requires { CanSeal self meta.old }
-        ensures begun { OnOk result (meta.new ≡ with_begun meta.old (ops_of self)) }
+        ensures begun { OnOk result (meta.new ≡ with_begun meta.old (ops_of_batch self)) }
         ensures same { IfOk result (λ sealed. sealed ≡ self) }
         ensures err { OnErr result (meta.new ≡ meta.old) }
         ensures back { IfErr result (λ back. back ≡ self) }
@@ -149,7 +149,7 @@ pub fn choose_batch(alloc: Global, contexts: &mut Contexts) -> Result<Choice, Al
 /// of its queue.)
 pub fn take_batch(alloc: Global, contexts: &mut Contexts, count: u32) -> Result<Batch, AllocError>
     requires { count ≡ length (choice most_grouped contexts.old) }
-    ensures ok { IfOk result (Takes contexts.old contexts.new) }
+    ensures ok { IfOk result (TakesBatch contexts.old contexts.new) }
     ensures err { OnErr result (contexts.new ≡ contexts.old) }
 {
     let mut queued = Vec::with_capacity(alloc, count as usize)?;
@@ -184,15 +184,5 @@ pub fn commit(sealed: SealedBatch, meta: &mut MetaStore) -> CommittedBatch
     use_up(sealed.queued.as_slice(), meta);
     CommittedBatch {
         queued: sealed.queued,
-    }
-}
-
-impl CommittedBatch {
-    /// The last transaction of the batch that is left of it.
-    pub fn pop(&mut self) -> Option<Committed>
-        ensures { MatchOption result (self.old ≡ []) (λ last. self.old ≡ self.new ++ last ∷ []) }
-    {
-        let last = self.queued.pop()?;
-        Some(last.commit())
     }
 }

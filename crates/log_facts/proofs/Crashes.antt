@@ -10,11 +10,11 @@ use Rattle.meta_rows.specs.declared.row_op.RowOp.{RowOp}
 use Rattle.meta_rows.specs.Prelude.{Rows, rows_after}
 use Rattle.meta_rows.proofs.Folds.{rows_of_records-push}
 use Rattle.meta_log.specs.declared.slot.Super.{Super}
-use Rattle.meta_log.specs.Prelude.{record_units, unit_count, BeginsWithRecord, BeginsWithRecords, active_half, AreRowsOf, width_of, super_bytes, IsSuper, IsActiveSlot, active_unit, other_slot}
+use Rattle.meta_log.specs.Prelude.{record_units, unit_count, BeginsWithRecord, BeginsWithRecords, active_half, AreRowsOf, width_of, super_bytes, IsSuper, IsActiveSlot, active_unit, other_slot, records_units}
 use Rattle.meta_log.proofs.RecordLemmas.{same_record}
 use Rattle.store_image.specs.Prelude.{NoBadRow, ObjectsStand, StandsFor, NoChanceMatch}
 use Rattle.store_image.proofs.Prelude.{equal_or_not}
-use Rattle.log_facts.specs.Prelude.{FlushState, IsOlderSlot, SlotsStand, records_units, IsSpellable, ActiveHalfStands, HasBegunRecord, LeavesRows}
+use Rattle.log_facts.specs.Prelude.{FlushState, IsOlderSlot, SlotsStand, IsSpellable, ActiveHalfStands, HasBegunRecord, LeavesRows}
 use Rattle.log_facts.proofs.Joins.{length-record_units, records_units-push, spellable-push, begin_records, last_as_written}
 use Rattle.log_facts.proofs.Reading.{behind_units, half_inside, slots_read, half_parts, no_record_behind, rows_read, record_in_run, run_of_record}
 

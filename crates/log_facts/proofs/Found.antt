@@ -11,9 +11,9 @@ use Rattle.object_model.specs.Prelude.{Objects}
 use Rattle.meta_rows.specs.declared.row_op.RowOp.{RowOp}
 use Rattle.meta_rows.specs.Prelude.{Rows, rows_of_records}
 use Rattle.meta_log.specs.declared.slot.Super.{Super}
-use Rattle.meta_log.specs.Prelude.{record_units, unit_count, BeginsWithRecord, BeginsWithRecords, AreRecords, active_half, AreRowsOf, units_of_records, super_bytes, active_unit, IsSuper, IsActiveSlot, other_slot}
+use Rattle.meta_log.specs.Prelude.{record_units, unit_count, BeginsWithRecord, BeginsWithRecords, AreRecords, active_half, AreRowsOf, units_of_records, super_bytes, active_unit, IsSuper, IsActiveSlot, other_slot, records_units}
 use Rattle.store_image.specs.Prelude.{StandsFor, NoChanceMatch}
-use Rattle.log_facts.specs.Prelude.{not_sent, WritesNoneOf, IsOlderSlot, SlotsStand, records_units, IsSurelyZero, ActiveHalfStands, RecordsStand, EndsInZeros, SoundFor}
+use Rattle.log_facts.specs.Prelude.{not_sent, WritesNoneOf, IsOlderSlot, SlotsStand, IsSurelyZero, ActiveHalfStands, RecordsStand, EndsInZeros, SoundFor}
 use Rattle.log_facts.proofs.Keeping.{front_push}
 use Rattle.log_facts.proofs.Joins.{length-record_units, record_has_units, begin_records, last_as_written}
 use Rattle.log_facts.proofs.Reading.{behind_units, half_inside, slots_read, half_parts, no_record_behind, rows_read}

@@ -4,9 +4,9 @@ use Rattle.std.proofs.lemmas.List.{append-nil, length-append, get_or-take, get_o
 use Rattle.byte_maps.specs.Units.{unit_at, zeros, IsUnits}
 use Rattle.byte_maps.proofs.Prelude.{length-in_units}
 use Rattle.meta_rows.specs.declared.row_op.RowOp.{RowOp}
-use Rattle.meta_log.specs.Prelude.{record_bytes, record_units, unit_count, BeginsWithRecord, BeginsWithRecords, AreRecords}
+use Rattle.meta_log.specs.Prelude.{record_bytes, record_units, unit_count, BeginsWithRecord, BeginsWithRecords, AreRecords, records_units}
 use Rattle.store_image.specs.Prelude.{HoldsAsWritten, AreAsWritten}
-use Rattle.log_facts.specs.Prelude.{records_units, IsSpellable, AreSpellable}
+use Rattle.log_facts.specs.Prelude.{IsSpellable, AreSpellable}
 
 pub length-record_units : (number : ℕ) (ops : List RowOp) → length (record_units number ops) ≡ 4096 * unit_count number ops
 length-record_units number ops = length-in_units (record_bytes number ops)

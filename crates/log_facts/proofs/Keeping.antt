@@ -12,8 +12,8 @@ use Rattle.block_device.specs.declared.event.Event.TheVariants.{Write, Flush, Do
 use Rattle.meta_rows.specs.declared.row_op.RowOp.{RowOp}
 use Rattle.meta_rows.specs.Prelude.{Rows}
 use Rattle.meta_log.specs.declared.slot.Super.{Super}
-use Rattle.meta_log.specs.Prelude.{super_bytes, active_unit, data_unit, other_slot}
-use Rattle.log_facts.specs.Prelude.{FlushState, not_sent, sent, flushed, IsFlushed, WritesNoneOf, IsOlderSlot, SlotsStand, records_units, begun_count, IsSurelyZero, ActiveHalfStands}
+use Rattle.meta_log.specs.Prelude.{super_bytes, active_unit, data_unit, other_slot, records_units}
+use Rattle.log_facts.specs.Prelude.{FlushState, not_sent, sent, flushed, IsFlushed, WritesNoneOf, IsOlderSlot, SlotsStand, begun_count, IsSurelyZero, ActiveHalfStands}
 
 -- ---- which units an event writes
 

@@ -5,8 +5,8 @@ use Rattle.byte_maps.specs.Units.{zeros}
 use Rattle.block_device.specs.Prelude.{last, IsClean, History, last_at}
 use Rattle.meta_rows.specs.declared.row_op.RowOp.{RowOp}
 use Rattle.meta_log.specs.declared.slot.Super.{Super}
-use Rattle.meta_log.specs.Prelude.{record_units, AreRecords, active_unit, IsSlotOf, IsActiveSlot, other_slot}
-use Rattle.log_facts.specs.Prelude.{not_sent, SlotsStand, records_units, AreSpellable, ActiveHalfStands}
+use Rattle.meta_log.specs.Prelude.{record_units, AreRecords, active_unit, IsSlotOf, IsActiveSlot, other_slot, records_units}
+use Rattle.log_facts.specs.Prelude.{not_sent, SlotsStand, AreSpellable, ActiveHalfStands}
 
 -- ---- where the device is as it was found
 

@@ -9,9 +9,9 @@ use Rattle.block_device.proofs.RangeLemmas.{units_from-same}
 use Rattle.meta_rows.specs.declared.row_op.RowOp.{RowOp}
 use Rattle.meta_rows.specs.Prelude.{Rows, rows_of_records}
 use Rattle.meta_log.specs.declared.slot.Super.{Super}
-use Rattle.meta_log.specs.Prelude.{unit_count, record_units, BeginsWithRecord, AreRecords, active_half, AreRowsOf, super_bytes, IsSuper, IsSlotOf, IsActiveSlot, active_unit, other_slot}
+use Rattle.meta_log.specs.Prelude.{unit_count, record_units, BeginsWithRecord, AreRecords, active_half, AreRowsOf, super_bytes, IsSuper, IsSlotOf, IsActiveSlot, active_unit, other_slot, records_units}
 use Rattle.meta_log.proofs.SlotLemmas.{same_super}
-use Rattle.log_facts.specs.Prelude.{IsOlderSlot, records_units, AreSpellable}
+use Rattle.log_facts.specs.Prelude.{IsOlderSlot, AreSpellable}
 use Rattle.log_facts.proofs.Keeping.{half_before_data}
 use Rattle.log_facts.proofs.Joins.{length-record_units, are_records, no_record_in_zeros, no_record_in_nothing}
 

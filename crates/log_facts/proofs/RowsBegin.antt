@@ -6,9 +6,9 @@ use Rattle.byte_maps.proofs.Prelude.{unit_at-units_from, unit_at-zeros}
 use Rattle.block_device.specs.Prelude.{History}
 use Rattle.meta_rows.specs.declared.row_op.RowOp.{RowOp}
 use Rattle.meta_rows.specs.Prelude.{Rows, row_sets}
-use Rattle.meta_log.specs.Prelude.{record_units, units_of_records, one_record, check_records, check_units, next_super}
+use Rattle.meta_log.specs.Prelude.{record_units, units_of_records, one_record, check_records, check_units, next_super, target_unit, records_units}
 use Rattle.meta_log.specs.declared.slot.Super.{Super}
-use Rattle.log_facts.specs.Prelude.{not_sent, IsSpellable, OtherHalfRests, CheckpointStands, target_unit}
+use Rattle.log_facts.specs.Prelude.{not_sent, IsSpellable, OtherHalfRests, CheckpointStands}
 use Rattle.log_facts.proofs.Found.{length-records_units}
 use Rattle.log_facts.proofs.OneRecord.{records_made, records_spellable}
 use Rattle.log_facts.proofs.Switching.{check_begin, target_front, target_behind}

@@ -1,6 +1,5 @@
 -- What a crash leaves while the superblock that follows is written.
-use Rattle.std.proofs.Common.{◌≡◌, ◌≢◌, ◌⊎◌, inl, inr, ℕ, ◌-◌, ◌*◌, ◌%◌, ◌≤◌, List, [], ◌∷◌, length, take, None, sym, ap, subst, ◌∙◌, arith}
-use Rattle.std.specs.List.{AllByRecursion}
+use Rattle.std.proofs.Common.{◌≡◌, ◌≢◌, ◌⊎◌, inl, inr, ℕ, ◌-◌, ◌*◌, ◌%◌, ◌≤◌, List, length, take, None, refl, sym, ap, subst, ◌∙◌, arith}
 use Rattle.byte_maps.specs.Units.{unit_at, IsUnits}
 use Rattle.block_device.specs.Prelude.{last, IsCrashImage, History}
 use Rattle.block_device.proofs.LogLemmas.{surely_image}
@@ -8,13 +7,11 @@ use Rattle.object_model.specs.Prelude.{Objects, replay, committed, HasAcked}
 use Rattle.object_model.specs.declared.book.Book.{Book}
 use Rattle.meta_rows.specs.declared.row_op.RowOp.{RowOp}
 use Rattle.meta_rows.specs.Prelude.{Rows}
-use Rattle.row_format.specs.Prelude.{Body, private, Extent, Row, collection, onode, shard, attribute, omap_header, omap_pair, bitmap}
 use Rattle.meta_log.specs.declared.slot.Super.{Super}
 use Rattle.meta_log.specs.Prelude.{super_bytes, IsValidSlot, IsActiveSlot, width_of, other_slot, next_super}
 use Rattle.meta_log.proofs.SlotLemmas.{same_super}
-use Rattle.store_image.specs.BadRows.{IsOnData, IsInPlace}
 use Rattle.store_image.specs.Prelude.{NoBadRow, IsExactBut, IsLeakedIn, NoChanceMatch, LeavesPrefix}
-use Rattle.store_image.proofs.Prelude.{equal_or_not}
+use Rattle.store_image.proofs.Prelude.{equal_or_not, none_bad_too}
 use Rattle.log_facts.specs.Prelude.{FlushState, IsOlderSlot, ActiveHalfStands, SoundFor, NextSlotStands, LeavesEither}
 use Rattle.log_facts.proofs.Reading.{slots_read}
 use Rattle.log_facts.proofs.Crashes.{half_left}
@@ -71,40 +68,8 @@ module _ (h : History) (s : Super) (number : ℕ) (flush : FlushState) (rows : R
 
 -- ---- goodness doesn't ask for the epoch
 
-on_data_next : (s : Super) (number : ℕ) (b : Body) → IsOnData s b → IsOnData (next_super s number) b
-on_data_next s number (private unit csums) is = is
-
-all_on_data : (s : Super) (number : ℕ) (es : List Extent) → AllByRecursion (λ e. IsOnData s e.body) es
-    → AllByRecursion (λ e. IsOnData (next_super s number) e.body) es
-all_on_data s number [] all = tt
-all_on_data s number (e ∷ es) all = (on_data_next s number e.body all.0, all_on_data s number es all.1)
-
-in_place_next : (s : Super) (number : ℕ) (rows : Rows) (row : Row) → IsInPlace s rows row → IsInPlace (next_super s number) rows row
-in_place_next s number rows (collection c) is = is
-in_place_next s number rows (onode c o size) is = is
-in_place_next s number rows (shard c o page extents) is = record {
-  has_collection = is.has_collection;
-  has_onode = is.has_onode;
-  ascend = is.ascend;
-  behind = is.behind;
-  within = is.within;
-  on_data = all_on_data s number extents is.on_data;
-}
-in_place_next s number rows (attribute c o name value) is = is
-in_place_next s number rows (omap_header c o value) is = is
-in_place_next s number rows (omap_pair c o key value) is = is
-in_place_next s number rows (bitmap r bits) is = is
-
 pub good_next : (s : Super) (number : ℕ) (rows : Rows) → NoBadRow s rows → NoBadRow (next_super s number) rows
-good_next s number rows good key value stands =
-    let is = good key value stands in
-    record {
-      row = is.row;
-      fits = is.fits;
-      key_is = is.key_is;
-      value_is = is.value_is;
-      in_place = in_place_next s number rows is.row is.in_place;
-    }
+good_next s number rows good = none_bad_too s (next_super s number) refl refl rows good
 
 pub sound_next : (h : History) (s : Super) (number : ℕ) (rows : Rows) (objects : Objects) → SoundFor h s rows objects
     → SoundFor h (next_super s number) rows objects

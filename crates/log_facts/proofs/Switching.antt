@@ -12,9 +12,9 @@ use Rattle.block_device.specs.declared.event.Event.TheVariants.{Write, Flush, Do
 use Rattle.meta_rows.specs.declared.row_op.RowOp.{RowOp}
 use Rattle.meta_rows.specs.Prelude.{Rows, rows_of_records}
 use Rattle.meta_log.specs.declared.slot.Super.{Super}
-use Rattle.meta_log.specs.Prelude.{active_unit, super_bytes, IsSuper, other_slot, other_unit, next_super}
+use Rattle.meta_log.specs.Prelude.{active_unit, super_bytes, IsSuper, other_slot, other_unit, next_super, records_units, target_unit}
 use Rattle.meta_log.proofs.SlotLemmas.{same_super, length-super_bytes}
-use Rattle.log_facts.specs.Prelude.{FlushState, not_sent, sent, flushed, IsFlushed, WritesNoneOf, IsOlderSlot, SlotsStand, records_units, AreSpellable, ActiveHalfStands, target_unit, OtherHalfRests, CheckpointStands, NextSlotStands}
+use Rattle.log_facts.specs.Prelude.{FlushState, not_sent, sent, flushed, IsFlushed, WritesNoneOf, IsOlderSlot, SlotsStand, AreSpellable, ActiveHalfStands, OtherHalfRests, CheckpointStands, NextSlotStands}
 use Rattle.log_facts.proofs.Keeping.{last_push, flushed_push, flush_sent, flush_ended}
 
 -- ---- where it lies

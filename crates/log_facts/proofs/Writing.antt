@@ -12,8 +12,8 @@ use Rattle.meta_rows.specs.declared.row_op.RowOp.{RowOp}
 use Rattle.meta_rows.specs.Prelude.{Rows, rows_after}
 use Rattle.meta_rows.proofs.Folds.{rows_of_records-push}
 use Rattle.meta_log.specs.declared.slot.Super.{Super}
-use Rattle.meta_log.specs.Prelude.{record_units, unit_count, active_unit}
-use Rattle.log_facts.specs.Prelude.{FlushState, not_sent, sent, flushed, IsFlushed, records_units, IsSpellable, ActiveHalfStands}
+use Rattle.meta_log.specs.Prelude.{record_units, unit_count, active_unit, records_units}
+use Rattle.log_facts.specs.Prelude.{FlushState, not_sent, sent, flushed, IsFlushed, IsSpellable, ActiveHalfStands}
 use Rattle.log_facts.proofs.Keeping.{last_push, zero_push, front_push, half_quiet, flush_sent, flush_ended}
 use Rattle.log_facts.proofs.Joins.{length-record_units, records_units-push, spellable-push}
 

@@ -1,18 +1,14 @@
 -- What is known of the half that isn't in use, at rest and while a checkpoint is written there, and of the slots while its superblock is written.
-use Rattle.std.specs.Prelude.{◌≡◌, ◌⊎◌, ℕ, ◌+◌, ◌%◌, ◌<◌, ◌≤◌, Bool, false, nat_lt, List, if◌then◌else◌}
+use Rattle.std.specs.Prelude.{◌≡◌, ◌⊎◌, ℕ, ◌+◌, ◌%◌, ◌<◌, ◌≤◌, Bool, false, List}
 use Rattle.std.specs.FinMap as map
-use Rattle.byte_maps.specs.Units.{unit_at, zeros, IsUnits}
+use Rattle.byte_maps.specs.Units.{zeros, IsUnits}
 use Rattle.block_device.specs.Prelude.{History, last_at, SurelyHolds, IsClean}
 use Rattle.meta_rows.specs.declared.row_op.RowOp.{RowOp}
 use Rattle.meta_rows.specs.Prelude.{Rows, rows_of_records}
 use Rattle.meta_log.specs.declared.slot.Super.{Super}
-use Rattle.meta_log.specs.Prelude.{active_unit, other_slot, other_unit, next_super, super_bytes, IsSuper, IsActiveSlot, AreRowsOf}
+use Rattle.meta_log.specs.Prelude.{records_units, target_unit, active_unit, other_slot, other_unit, next_super, super_bytes, IsSuper, IsActiveSlot, AreRowsOf}
 use Rattle.log_facts.specs.Flushing.{FlushState, IsFlushed}
-use Rattle.log_facts.specs.HalfFacts.{records_units, AreSpellable}
-
--- unit k of a half that has these records in its first `tail` units and is zero behind them
-abbrev pub target_unit : ℕ → ℕ → List (List RowOp) → ℕ → List ℕ
-target_unit tail first recs k = if nat_lt k tail then unit_at k (records_units first recs) else zeros 4096
+use Rattle.log_facts.specs.HalfFacts.{AreSpellable}
 
 -- While no checkpoint is written each unit of the other half is clean, and those that aren't stale are zero.
 pub record OtherHalfRests (h : History) (s : Super) (is_stale : ℕ → Bool) : Type 0 where

@@ -6,8 +6,8 @@ use Rattle.block_device.specs.Prelude.{History, last_at, SurelyHolds}
 use Rattle.meta_rows.specs.declared.row_op.RowOp.{RowOp}
 use Rattle.meta_rows.specs.Prelude.{Rows, rows_of_records}
 use Rattle.meta_log.specs.declared.slot.Super.{Super}
-use Rattle.meta_log.specs.Prelude.{active_unit}
-use Rattle.log_facts.specs.HalfFacts.{records_units, AreSpellable}
+use Rattle.meta_log.specs.Prelude.{active_unit, records_units}
+use Rattle.log_facts.specs.HalfFacts.{AreSpellable}
 
 -- The records `recs` make the rows, and stand in the first `tail` units of the active half, stable; of what is behind them nothing is said.
 pub record RecordsStand (h : History) (s : Super) (rows : Rows) (tail number : ℕ) (recs : List (List RowOp)) : Type 0 where

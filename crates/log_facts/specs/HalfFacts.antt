@@ -6,13 +6,8 @@ use Rattle.block_device.specs.Prelude.{History, last_at, SurelyHolds}
 use Rattle.meta_rows.specs.declared.row_op.RowOp.{RowOp}
 use Rattle.meta_rows.specs.Prelude.{Rows, rows_of_records, ops_bytes, AllFit}
 use Rattle.meta_log.specs.declared.slot.Super.{Super}
-use Rattle.meta_log.specs.Prelude.{record_units, unit_count, active_unit}
+use Rattle.meta_log.specs.Prelude.{record_units, unit_count, active_unit, records_units}
 use Rattle.log_facts.specs.Flushing.{FlushState, IsFlushed}
-
--- records of consecutive numbers from this one on, one behind the other
-abbrev pub records_units : ℕ → List (List RowOp) → List ℕ
-records_units number [] = []
-records_units number (ops ∷ more) = record_units number ops ++ records_units (number + 1) more
 
 -- the number and the operations have a spelling as a record
 pub record IsSpellable (number : ℕ) (ops : List RowOp) : Type 0 where

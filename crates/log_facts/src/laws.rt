@@ -11,15 +11,15 @@ ghost use Rattle.object_model.specs.declared.book.Book.{Book};
 ghost use Rattle.meta_rows.specs.declared.row_op.RowOp.{RowOp};
 ghost use Rattle.meta_rows.specs.Prelude.{Rows, rows_after, rows_of_records, row_sets};
 ghost use Rattle.meta_log.specs.declared.slot.Super.{Super};
-ghost use Rattle.meta_log.specs.Prelude.{active_unit, IsSuper, IsActiveSlot, record_units, unit_count, AreRecords, active_half, AreRowsOf, units_of_records, width_of, super_bytes, check_records, check_units, other_slot, other_unit, next_super};
+ghost use Rattle.meta_log.specs.Prelude.{active_unit, IsSuper, IsActiveSlot, record_units, unit_count, AreRecords, active_half, AreRowsOf, units_of_records, width_of, super_bytes, check_records, check_units, other_slot, other_unit, next_super, records_units, target_unit};
 ghost use Rattle.store_image.specs.Prelude.{NoBadRow, IsExactBut, IsLeakedIn, ObjectsStand, StandsFor, NoChanceMatch, LeavesPrefix};
 ghost use Rattle.log_facts.specs.Flushing.{FlushState, not_sent, sent, flushed, IsFlushed, WritesNoneOf};
 ghost use Rattle.log_facts.specs.SlotFacts.{SlotsStand};
-ghost use Rattle.log_facts.specs.HalfFacts.{records_units, AreSpellable, IsSpellable, IsSurelyZero, ActiveHalfStands};
+ghost use Rattle.log_facts.specs.HalfFacts.{AreSpellable, IsSpellable, IsSurelyZero, ActiveHalfStands};
 ghost use Rattle.log_facts.specs.FoundHalf.{RecordsStand, EndsInZeros};
 ghost use Rattle.log_facts.specs.CrashRows.{LeavesRows};
 ghost use Rattle.log_facts.specs.Soundness.{SoundFor};
-ghost use Rattle.log_facts.specs.Checkpoints.{target_unit, OtherHalfRests, CheckpointStands, NextSlotStands, LeavesEither};
+ghost use Rattle.log_facts.specs.Checkpoints.{OtherHalfRests, CheckpointStands, NextSlotStands, LeavesEither};
 
 /// What is known of the slots stays known over an event that writes neither.
 pub fn an_event_elsewhere_keeps_the_slots()

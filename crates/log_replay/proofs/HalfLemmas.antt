@@ -14,7 +14,7 @@ use Rattle.meta_log.specs.Prelude.{record_units, unit_count, BeginsWithRecord, a
 use Rattle.meta_log.specs.declared.scanning.FoundRecord.{FoundRecord}
 use Rattle.meta_log.proofs.SealLemmas.{length-record_units, unit_count-some}
 use Rattle.meta_log.proofs.ScanLemmas.{StandUpTo, length-with_record}
-use Rattle.log_replay.specs.Prelude.{IsAbout, IsFoundIn, IsFoundOn, as_found, first_behind, half_end, rest_of, IsReplay, AreNotZero, HasPiece, AreUnits, left_of, IsReader, IsNew, Skips, ReadsOn, HasNoRecord, HoldsRecord, HasReplayed, HasStale, IsHalfRead}
+use Rattle.log_replay.specs.Prelude.{IsAbout, IsFoundIn, IsFoundOn, as_found, first_behind, half_end, rest_of, IsReplay, AreNotZero, HasPiece, AreUnitsFrom, bytes_not_passed, IsReader, IsUnread, Skips, ReadsOn, HasNoRecord, HoldsRecord, HasReplayed, HasStale, IsHalfRead}
 use Rattle.log_replay.specs.declared.replaying.FoundStore.{FoundStore}
 use Rattle.log_replay.specs.declared.half_reader.HalfReader.{HalfReader}
 use Rattle.log_replay.specs.declared.replaying.Replayed.{Replayed}
@@ -24,7 +24,7 @@ use Rattle.log_replay.proofs.ReplayFit.{replay_fit}
 
 -- ---- units that were read
 
-pub no_units : (at count : ℕ) (d : Disk) → count ≡ 0 → AreUnits at count [] d
+pub no_units : (at count : ℕ) (d : Disk) → count ≡ 0 → AreUnitsFrom at count [] d
 no_units at count d none = record {
   size = omega (arith, none);
   pieces = about_all d (HasPiece at count []) (λ contents k below. absurd (omega (arith, below, none)));
@@ -42,26 +42,26 @@ join_pieces at n m a b contents size first second k below = elim (cases_lt k n) 
       ∙ sym (unit_at-append_back n k j a b size (omega (arith, ge)))
 ]
 
-units_join : (at n m : ℕ) (a b : List ℕ) (d : Disk) → AreUnits at n a d → AreUnits (at + n) m b d → AreUnits at (n + m) (a ++ b) d
+units_join : (at n m : ℕ) (a b : List ℕ) (d : Disk) → AreUnitsFrom at n a d → AreUnitsFrom (at + n) m b d → AreUnitsFrom at (n + m) (a ++ b) d
 units_join at n m a b d first second = record {
   size = omega (arith, length-append a b, first.size, second.size);
   pieces = about_both d (HasPiece at n a) (HasPiece (at + n) m b) (HasPiece at (n + m) (a ++ b))
       (λ contents p q. join_pieces at n m a b contents first.size p q) first.pieces second.pieces;
 }
 
-pub between_join : (first mid end : ℕ) (a b : List ℕ) (d : Disk) → first ≤ mid → mid ≤ end → AreUnits first (mid - first) a d
-    → AreUnits mid (end - mid) b d → AreUnits first (end - first) (a ++ b) d
+pub between_join : (first mid end : ℕ) (a b : List ℕ) (d : Disk) → first ≤ mid → mid ≤ end → AreUnitsFrom first (mid - first) a d
+    → AreUnitsFrom mid (end - mid) b d → AreUnitsFrom first (end - first) (a ++ b) d
 between_join first mid end a b d le more p q =
     let place : mid ≡ first + (mid - first) = omega (arith, le) in
     let count : mid - first + (end - mid) ≡ end - first = omega (arith, le, more) in
-    subst (λ (n : ℕ). AreUnits first n (a ++ b) d) count
-    (units_join first (mid - first) (end - mid) a b d p (subst (λ (n : ℕ). AreUnits n (end - mid) b d) place q))
+    subst (λ (n : ℕ). AreUnitsFrom first n (a ++ b) d) count
+    (units_join first (mid - first) (end - mid) a b d p (subst (λ (n : ℕ). AreUnitsFrom n (end - mid) b d) place q))
 
-pub units_read : (d : Disk) (at count : ℕ) (bytes : List ℕ) → IsSound d → HasRead d at count bytes → AreUnits at count bytes d
+pub units_read : (d : Disk) (at count : ℕ) (bytes : List ℕ) → IsSound d → HasRead d at count bytes → AreUnitsFrom at count bytes d
 units_read d at count bytes sound read =
     record { size = read.size; pieces = seen d at count bytes (HasPiece at count bytes) sound read (λ contents same. same) }
 
-pub whole_units : (first count : ℕ) (bytes : List ℕ) (d : Disk) → first + count ≤ d.units → IsSound d → AreUnits first count bytes d
+pub whole_units : (first count : ℕ) (bytes : List ℕ) (d : Disk) → first + count ≤ d.units → IsSound d → AreUnitsFrom first count bytes d
     → IsAbout d (λ contents. bytes ≡ units_from first count contents)
 whole_units first count bytes d inside sound are = with_size d (λ contents. bytes ≡ units_from first count contents) sound
     (about_both d (HasPiece first count bytes) (HasPiece first count bytes) (λ contents. IsUnits d.units contents → bytes ≡ units_from first count contents)
@@ -69,7 +69,7 @@ whole_units first count bytes d inside sound are = with_size d (λ contents. byt
 
 -- ---- the reader
 
-pub new_reader : (h : HalfReader) (first end : ℕ) → IsNew h first end → first ≤ end → IsReader h
+pub new_reader : (h : HalfReader) (first end : ℕ) → IsUnread h first end → first ≤ end → IsReader h
 new_reader h first end new le = record {
   read = omega (arith, new.at, new.next);
   more = omega (arith, new.next, new.end_is, le);
@@ -77,13 +77,13 @@ new_reader h first end new le = record {
   size = omega (arith, new.at, new.next, ap length (nothing_left h first end new));
 }
   where
-    nothing_left : (h : HalfReader) (first end : ℕ) → IsNew h first end → left_of h ≡ []
+    nothing_left : (h : HalfReader) (first end : ℕ) → IsUnread h first end → bytes_not_passed h ≡ []
     nothing_left h first end new = ap₂ (λ (n : ℕ) (l : List ℕ). drop n l) new.start new.none
 
-pub left_of_new : (h : HalfReader) (first end : ℕ) → IsNew h first end → left_of h ≡ []
+pub left_of_new : (h : HalfReader) (first end : ℕ) → IsUnread h first end → bytes_not_passed h ≡ []
 left_of_new h first end new = ap₂ (λ (n : ℕ) (l : List ℕ). drop n l) new.start new.none
 
-pub reads_none : (d : Disk) (old new : HalfReader) → IsReader new → left_of new ≡ left_of old → new.at ≡ old.at → new.next ≡ old.next → new.end ≡ old.end
+pub reads_none : (d : Disk) (old new : HalfReader) → IsReader new → bytes_not_passed new ≡ bytes_not_passed old → new.at ≡ old.at → new.next ≡ old.next → new.end ≡ old.end
     → ReadsOn d old new
 reads_none d old new reader left at next end_is = record {
   reader = reader;
@@ -91,7 +91,7 @@ reads_none d old new reader left at next end_is = record {
   end_is = end_is;
   order = omega (arith, next);
   bytes = [];
-  left = left ∙ sym (append-nil (left_of old));
+  left = left ∙ sym (append-nil (bytes_not_passed old));
   units = no_units old.next (new.next - old.next) d (omega (arith, next));
 }
 
@@ -102,7 +102,7 @@ reads_join d a b c p q = record {
   end_is = q.end_is ∙ p.end_is;
   order = omega (arith, p.order, q.order);
   bytes = p.bytes ++ q.bytes;
-  left = q.left ∙ ap (λ (l : List ℕ). l ++ q.bytes) p.left ∙ append_assoc (left_of a) p.bytes q.bytes;
+  left = q.left ∙ ap (λ (l : List ℕ). l ++ q.bytes) p.left ∙ append_assoc (bytes_not_passed a) p.bytes q.bytes;
   units = between_join a.next b.next c.next p.bytes q.bytes d p.order q.order p.units q.units;
 }
 
@@ -111,22 +111,22 @@ pub reads_over : (d : Disk) (old new : HalfReader) (count : ℕ) (piece : List �
     → old.next + count ≤ old.end → length old.bytes.items ≤ old.start → new.bytes.items ≡ piece → new.start ≡ 0 → new.at ≡ old.at
     → new.next ≡ old.next + count → new.end ≡ old.end → ReadsOn d old new
 reads_over d old new count piece sound reader read inside over bytes start at next end_is =
-    let none : left_of old ≡ [] = drop_all old.start old.bytes.items over in
-    let left : left_of new ≡ left_of old ++ piece = ap₂ (λ (n : ℕ) (l : List ℕ). drop n l) start bytes ∙ ap (λ (l : List ℕ). l ++ piece) (sym none) in
+    let none : bytes_not_passed old ≡ [] = drop_all old.start old.bytes.items over in
+    let left : bytes_not_passed new ≡ bytes_not_passed old ++ piece = ap₂ (λ (n : ℕ) (l : List ℕ). drop n l) start bytes ∙ ap (λ (l : List ℕ). l ++ piece) (sym none) in
     let many : count ≡ new.next - old.next = omega (arith, next) in
     record {
       reader = record {
         read = omega (arith, reader.read, at, next);
         more = omega (arith, inside, next, end_is);
         start = omega (arith, start);
-        size = omega (arith, ap length left, length-append (left_of old) piece, reader.size, reader.read, read.size, at, next);
+        size = omega (arith, ap length left, length-append (bytes_not_passed old) piece, reader.size, reader.read, read.size, at, next);
       };
       at = at;
       end_is = end_is;
       order = omega (arith, next);
       bytes = piece;
       left = left;
-      units = subst (λ (n : ℕ). AreUnits old.next n piece d) many (units_read d old.next count piece sound read);
+      units = subst (λ (n : ℕ). AreUnitsFrom old.next n piece d) many (units_read d old.next count piece sound read);
     }
 
 -- one piece more
@@ -134,7 +134,7 @@ pub reads_piece : (d : Disk) (old new : HalfReader) (count : ℕ) (piece : List 
     → old.next + count ≤ old.end → new.bytes.items ≡ old.bytes.items ++ piece → new.start ≡ old.start → new.at ≡ old.at → new.next ≡ old.next + count
     → new.end ≡ old.end → ReadsOn d old new
 reads_piece d old new count piece sound reader read inside bytes start at next end_is =
-    let left : left_of new ≡ left_of old ++ piece = ap₂ (λ (n : ℕ) (l : List ℕ). drop n l) start bytes
+    let left : bytes_not_passed new ≡ bytes_not_passed old ++ piece = ap₂ (λ (n : ℕ) (l : List ℕ). drop n l) start bytes
     ∙ drop-append-le old.start old.bytes.items piece reader.start in
     let many : count ≡ new.next - old.next = omega (arith, next) in
     record {
@@ -142,23 +142,23 @@ reads_piece d old new count piece sound reader read inside bytes start at next e
         read = omega (arith, reader.read, at, next);
         more = omega (arith, inside, next, end_is);
         start = omega (arith, start, reader.start, ap length bytes, length-append old.bytes.items piece);
-        size = omega (arith, ap length left, length-append (left_of old) piece, reader.size, reader.read, read.size, at, next);
+        size = omega (arith, ap length left, length-append (bytes_not_passed old) piece, reader.size, reader.read, read.size, at, next);
       };
       at = at;
       end_is = end_is;
       order = omega (arith, next);
       bytes = piece;
       left = left;
-      units = subst (λ (n : ℕ). AreUnits old.next n piece d) many (units_read d old.next count piece sound read);
+      units = subst (λ (n : ℕ). AreUnitsFrom old.next n piece d) many (units_read d old.next count piece sound read);
     }
 
-pub skips : (units : ℕ) (old new : HalfReader) → IsReader old → 4096 * units ≤ length (left_of old) → new.bytes.items ≡ old.bytes.items
+pub skips : (units : ℕ) (old new : HalfReader) → IsReader old → 4096 * units ≤ length (bytes_not_passed old) → new.bytes.items ≡ old.bytes.items
     → new.start ≡ old.start + 4096 * units → new.at ≡ old.at + units → new.next ≡ old.next → new.end ≡ old.end → Skips units old new
 skips units old new reader there bytes start at next end_is =
-    let left : left_of new ≡ drop (4096 * units) (left_of old) = ap₂ (λ (n : ℕ) (l : List ℕ). drop n l) start bytes
+    let left : bytes_not_passed new ≡ drop (4096 * units) (bytes_not_passed old) = ap₂ (λ (n : ℕ) (l : List ℕ). drop n l) start bytes
     ∙ sym (drop-drop (4096 * units) old.start old.bytes.items) in
-    let all : length (left_of old) ≡ length old.bytes.items - old.start = length-drop old.start old.bytes.items in
-    let fewer : length (left_of new) ≡ length (left_of old) - 4096 * units = ap length left ∙ length-drop (4096 * units) (left_of old) in
+    let all : length (bytes_not_passed old) ≡ length old.bytes.items - old.start = length-drop old.start old.bytes.items in
+    let fewer : length (bytes_not_passed new) ≡ length (bytes_not_passed old) - 4096 * units = ap length left ∙ length-drop (4096 * units) (bytes_not_passed old) in
     record {
       reader = record {
         read = omega (arith, reader.read, reader.size, there, at, next);
@@ -212,15 +212,15 @@ none_at_end h number reader is more ops rest size here = omega (
   reader.size,
   is,
   size,
-  length-append (left_of h) more,
-  length-with_record (left_of h ++ more) number ops rest here,
+  length-append (bytes_not_passed h) more,
+  length-with_record (bytes_not_passed h ++ more) number ops rest here,
   unit_count-some number ops,
 )
 
-pub none_by_head : (h : HalfReader) (number : ℕ) → BeginsNoRecord (left_of h) number → HasNoRecord h number
+pub none_by_head : (h : HalfReader) (number : ℕ) → BeginsNoRecord (bytes_not_passed h) number → HasNoRecord h number
 none_by_head h number none more ops rest size here = none more ops rest here
 
-pub none_by_size : (h : HalfReader) (number units : ℕ) → IsReader h → TakesUnits (left_of h) number units → h.end - h.at < units → HasNoRecord h number
+pub none_by_size : (h : HalfReader) (number units : ℕ) → IsReader h → TakesUnits (bytes_not_passed h) number units → h.end - h.at < units → HasNoRecord h number
 none_by_size h number units reader takes long more ops rest size here = omega (
   arith,
   reader.read,
@@ -228,27 +228,27 @@ none_by_size h number units reader takes long more ops rest size here = omega (
   reader.size,
   long,
   size,
-  length-append (left_of h) more,
-  length-with_record (left_of h ++ more) number ops rest here,
+  length-append (bytes_not_passed h) more,
+  length-with_record (bytes_not_passed h ++ more) number ops rest here,
   takes more ops rest here,
 )
 
-pub holds_record : (d : Disk) (old new : HalfReader) (number units : ℕ) → TakesUnits (left_of old) number units → ReadsOn d old new
-    → 4096 * units ≤ length (left_of new) → HoldsRecord new number
+pub holds_record : (d : Disk) (old new : HalfReader) (number units : ℕ) → TakesUnits (bytes_not_passed old) number units → ReadsOn d old new
+    → 4096 * units ≤ length (bytes_not_passed new) → HoldsRecord new number
 holds_record d old new number units takes read there more ops rest here =
-    let whole : left_of new ++ more ≡ left_of old ++ (read.bytes ++ more) = ap (λ (l : List ℕ). l ++ more) read.left ∙ append_assoc (left_of old) read.bytes more in
+    let whole : bytes_not_passed new ++ more ≡ bytes_not_passed old ++ (read.bytes ++ more) = ap (λ (l : List ℕ). l ++ more) read.left ∙ append_assoc (bytes_not_passed old) read.bytes more in
     let is = takes (read.bytes ++ more) ops rest (subst (λ (l : List ℕ). BeginsWithRecord l number ops rest) whole here) in
     omega (arith, there, is)
 
 -- where it was read to its end, and there is none
-pub none_held : (h : HalfReader) (number : ℕ) → HoldsRecord h number → ((ops : List RowOp) (rest : List ℕ) → ¬ BeginsWithRecord (left_of h) number ops rest)
+pub none_held : (h : HalfReader) (number : ℕ) → HoldsRecord h number → ((ops : List RowOp) (rest : List ℕ) → ¬ BeginsWithRecord (bytes_not_passed h) number ops rest)
     → HasNoRecord h number
 none_held h number holds none more ops rest size here =
-    none ops (drop (4096 * unit_count number ops) (left_of h)) (record_in_front (left_of h) more number ops rest here (holds more ops rest here))
+    none ops (drop (4096 * unit_count number ops) (bytes_not_passed h)) (record_in_front (bytes_not_passed h) more number ops rest here (holds more ops rest here))
 
 pub record_or_none : (h : HalfReader) (number : ℕ) (found : Option FoundRecord) → HoldsRecord h number
-    → MatchOption found ((ops : List RowOp) (rest : List ℕ) → ¬ BeginsWithRecord (left_of h) number ops rest) (IsAtFront (left_of h) number)
-    → MatchOption found (HasNoRecord h number) (IsAtFront (left_of h) number)
+    → MatchOption found ((ops : List RowOp) (rest : List ℕ) → ¬ BeginsWithRecord (bytes_not_passed h) number ops rest) (IsAtFront (bytes_not_passed h) number)
+    → MatchOption found (HasNoRecord h number) (IsAtFront (bytes_not_passed h) number)
 record_or_none h number None holds none = none_held h number holds none
 record_or_none h number (Some record_there) holds is = is
 
@@ -260,11 +260,11 @@ pub record ReplayedHalf (d : Disk) (old : HalfReader) (first : ℕ) (now : HalfR
   pub end_is : now.end ≡ old.end
   pub order : old.at ≤ now.next
   pub bytes : List ℕ
-  pub read : AreUnits old.at (now.next - old.at) bytes d
+  pub read : AreUnitsFrom old.at (now.next - old.at) bytes d
   pub at : now.at ≡ old.at + tail
-  pub so_far : ReplayedSoFar bytes first (left_of now) rows tail number
+  pub so_far : ReplayedSoFar bytes first (bytes_not_passed now) rows tail number
 
-pub half_begun : (d : Disk) (h : HalfReader) (first : ℕ) (rows : Rows) → IsNew h h.at h.end → h.at ≤ h.end → rows ≡ map.empty
+pub half_begun : (d : Disk) (h : HalfReader) (first : ℕ) (rows : Rows) → IsUnread h h.at h.end → h.at ≤ h.end → rows ≡ map.empty
     → ReplayedHalf d h first h rows 0 first
 half_begun d h first rows new le none = record {
   reader = new_reader h h.at h.end new le;
@@ -298,21 +298,21 @@ half_read d old first now then rows tail number so_far read = record {
   read = between_join old.at now.next then.next so_far.bytes read.bytes d so_far.order read.order so_far.read read.units;
   at = read.at ∙ so_far.at;
   so_far = subst (λ (l : List ℕ). ReplayedSoFar (so_far.bytes ++ read.bytes) first l rows tail number) (sym read.left)
-      (so_far_more so_far.bytes (left_of now) read.bytes first rows tail number so_far.so_far);
+      (so_far_more so_far.bytes (bytes_not_passed now) read.bytes first rows tail number so_far.so_far);
 }
 
 -- a record was passed over and applied
 pub half_replayed : (d : Disk) (old : HalfReader) (first : ℕ) (now then : HalfReader) (rows : Rows) (tail number : ℕ) (found : FoundRecord) (after : Rows)
-    → ReplayedHalf d old first now rows tail number → IsAtFront (left_of now) number found → Skips found.units now then → after ≡ rows_after rows found.ops
+    → ReplayedHalf d old first now rows tail number → IsAtFront (bytes_not_passed now) number found → Skips found.units now then → after ≡ rows_after rows found.ops
     → ReplayedHalf d old first then after (tail + found.units) (number + 1)
 half_replayed d old first now then rows tail number found after so_far is skip applied = record {
   reader = skip.reader;
   end_is = skip.end_is ∙ so_far.end_is;
   order = omega (arith, so_far.order, skip.next);
   bytes = so_far.bytes;
-  read = subst (λ (n : ℕ). AreUnits old.at (n - old.at) so_far.bytes d) (sym skip.next) so_far.read;
+  read = subst (λ (n : ℕ). AreUnitsFrom old.at (n - old.at) so_far.bytes d) (sym skip.next) so_far.read;
   at = omega (arith, skip.at, so_far.at);
-  so_far = replayed_more so_far.bytes first (left_of now) rows tail number found (left_of then) after is skip.left applied so_far.so_far;
+  so_far = replayed_more so_far.bytes first (bytes_not_passed now) rows tail number found (bytes_not_passed then) after is skip.left applied so_far.so_far;
 }
 
 -- the units of a record that stands in front are there
@@ -348,27 +348,27 @@ half_done d old first now log so_far none =
       bytes = so_far.bytes;
       read = so_far.read;
       at = so_far.at;
-      left = left_behind was.records first so_far.bytes (left_of now) was.stand ∙ ap (λ (n : ℕ). drop (4096 * n) so_far.bytes) (sym was.tail_is);
-      all = λ more size. replayed_all (so_far.bytes ++ more) first (left_of now ++ more) log.rows.rows log.tail log.number (λ ops rest. none more ops rest size)
-          (so_far_more so_far.bytes (left_of now) more first log.rows.rows log.tail log.number was);
+      left = left_behind was.records first so_far.bytes (bytes_not_passed now) was.stand ∙ ap (λ (n : ℕ). drop (4096 * n) so_far.bytes) (sym was.tail_is);
+      all = λ more size. replayed_all (so_far.bytes ++ more) first (bytes_not_passed now ++ more) log.rows.rows log.tail log.number (λ ops rest. none more ops rest size)
+          (so_far_more so_far.bytes (bytes_not_passed now) more first log.rows.rows log.tail log.number was);
     }
 
 -- ---- the whole half
 
 pub half_was_read : (d : Disk) (begin now : HalfReader) (first count number : ℕ) (log : Replayed) (stale : List ℕ) → IsSound d → first + count ≤ d.units
-    → IsNew begin first (first + count) → HasReplayed d begin number now log → HasStale d now stale → IsHalfRead d first count number log stale
+    → IsUnread begin first (first + count) → HasReplayed d begin number now log → HasStale d now stale → IsHalfRead d first count number log stale
 half_was_read d begin now first count number log stale sound inside new replayed found =
     let half = replayed.bytes ++ found.more in
     let end_is : now.end ≡ first + count = replayed.end_is ∙ new.end_is in
     let many : now.end - begin.at ≡ count = omega (arith, end_is, new.at) in
-    let units : AreUnits begin.at (now.end - begin.at) half d =
+    let units : AreUnitsFrom begin.at (now.end - begin.at) half d =
     between_join begin.at now.next now.end replayed.bytes found.more d replayed.order replayed.reader.more replayed.read found.read in
-    let are : AreUnits first count half d =
-    subst (λ (n : ℕ). AreUnits n count half d) new.at (subst (λ (n : ℕ). AreUnits begin.at n half d) many units) in
+    let are : AreUnitsFrom first count half d =
+    subst (λ (n : ℕ). AreUnitsFrom n count half d) new.at (subst (λ (n : ℕ). AreUnitsFrom begin.at n half d) many units) in
     let place : now.at ≡ first + log.tail = omega (arith, replayed.at, new.at) in
     let behind : now.end - now.at ≡ count - log.tail = omega (arith, end_is, place) in
     let within : 4096 * log.tail ≤ length replayed.bytes = omega (arith, replayed.read.size, replayed.at, replayed.reader.read, replayed.order) in
-    let rest : left_of now ++ found.more ≡ drop (4096 * log.tail) half =
+    let rest : bytes_not_passed now ++ found.more ≡ drop (4096 * log.tail) half =
     ap (λ (l : List ℕ). l ++ found.more) replayed.left ∙ sym (drop-append-le (4096 * log.tail) replayed.bytes found.more within) in
     record {
       half = half;
@@ -380,7 +380,7 @@ half_was_read d begin now first count number log stale sound inside new replayed
           (subst (λ (l : List ℕ). AreNotZero now.at (now.end - now.at) l stale) rest found.stale));
     }
 
-pub new_again : (h : HalfReader) (first end : ℕ) → IsNew h first end → IsNew h h.at h.end
+pub new_again : (h : HalfReader) (first end : ℕ) → IsUnread h first end → IsUnread h h.at h.end
 new_again h first end new = record { at = refl; next = new.next ∙ sym new.at; end_is = refl; start = new.start; none = new.none }
 
 -- the store that was found

@@ -9,7 +9,7 @@ use Rattle.block_device.specs.Prelude.{History, EachWriteIsAnswered, IsSubmissio
 use Rattle.block_device.specs.declared.event.Event.{Event}
 use Rattle.block_device.specs.declared.event.Event.TheVariants.{Write, Flush, Done}
 use Rattle.block_device.proofs.LogLemmas.{slice_get-push_cases}
-use Rattle.log_replay.specs.Prelude.{after_call, with_call, Told, GoesOnBy, IsFirstRun, UnitRun, AreRuns, run_events, WroteRuns, IsZeroing, ZeroesOnly}
+use Rattle.log_replay.specs.Prelude.{after_call, with_call, Told, GoesOnBy, IsRunAtFront, UnitRun, AreRuns, run_events, WroteRuns, IsZeroing, ZeroesOnly}
 
 -- ---- one more call
 
@@ -60,13 +60,13 @@ by_length events h k by = ap (λ (l : List Event). length l) by.more ∙ length-
 abbrev pub AreRunsUpTo : List ℕ → List UnitRun → List ℕ → Type 0
 AreRunsUpTo units [] rest = units ≡ rest
 AreRunsUpTo units (run ∷ more) rest =
-    (0 < length units) × IsFirstRun units run.count × (run.at ≡ slice_index units 0) × AreRunsUpTo (drop run.count units) more rest
+    (0 < length units) × IsRunAtFront units run.count × (run.at ≡ slice_index units 0) × AreRunsUpTo (drop run.count units) more rest
 
-one_more_run : (units : List ℕ) (runs : List UnitRun) (rest : List ℕ) (count : ℕ) → AreRunsUpTo units runs rest → 0 < length rest → IsFirstRun rest count
+one_more_run : (units : List ℕ) (runs : List UnitRun) (rest : List ℕ) (count : ℕ) → AreRunsUpTo units runs rest → 0 < length rest → IsRunAtFront rest count
     → AreRunsUpTo units (runs ++ record { at = slice_index rest 0; count = count } ∷ []) (drop count rest)
 one_more_run units [] rest count is some run = (
   subst (λ (l : List ℕ). 0 < length l) (sym is) some,
-  subst (λ (l : List ℕ). IsFirstRun l count) (sym is) run,
+  subst (λ (l : List ℕ). IsRunAtFront l count) (sym is) run,
   ap (λ (l : List ℕ). slice_index l 0) (sym is),
   ap (λ (l : List ℕ). drop count l) is,
 )
@@ -101,7 +101,7 @@ pub record RunsSoFar (units rest : List ℕ) (count : ℕ) (old new : History) :
 pub runs_none : (units : List ℕ) (h : History) → RunsSoFar units units 0 h h
 runs_none units h = record { runs = []; up_to = refl; counted = refl; by = by_none h }
 
-pub runs_more : (units rest : List ℕ) (n count : ℕ) → 0 < length rest → IsFirstRun rest count → (h k : History) → RunsSoFar units rest n h k
+pub runs_more : (units rest : List ℕ) (n count : ℕ) → 0 < length rest → IsRunAtFront rest count → (h k : History) → RunsSoFar units rest n h k
     → RunsSoFar units (drop count rest) (n + 1) h (after_call (Write (slice_index rest 0) (zeros (4096 * count))) true k)
 runs_more units rest n count some run h k so_far =
     let at = slice_index rest 0 in
@@ -159,7 +159,7 @@ zeroing_wider first end first' end' lower higher (event ∷ events) all =
 
 -- a run lies where its units do
 
-pub run_zeroes : (rest : List ℕ) (count first end : ℕ) → 0 < length rest → IsFirstRun rest count → All (λ unit. (first ≤ unit) × (unit < end)) rest
+pub run_zeroes : (rest : List ℕ) (count first end : ℕ) → 0 < length rest → IsRunAtFront rest count → All (λ unit. (first ≤ unit) × (unit < end)) rest
     → IsZeroing first end (Write (slice_index rest 0) (zeros (4096 * count)))
 run_zeroes rest count first end some run between =
     let P : ℕ → Type 0 = λ unit. (first ≤ unit) × (unit < end) in

@@ -7,7 +7,7 @@ use Rattle.std.proofs.lemmas.List.Elements.{All-get_or, All-replicate, All-push,
 use Rattle.byte_maps.specs.Units.{unit_at, zeros, IsUnits}
 use Rattle.byte_maps.proofs.Prelude.{length-zeros, unit_at-append_front, unit_at-append_back}
 use Rattle.block_device.specs.Prelude.{last, IsClean, Disk, History, HasRead, IsSound}
-use Rattle.log_replay.specs.Prelude.{IsAllClean, IsZero, AreStale, UnitsAscend, IsNotZero, AddsStale, AreNotZero, HasPiece, AreUnits, left_of, IsReader, AddsUnits, HasStale}
+use Rattle.log_replay.specs.Prelude.{IsAllClean, IsZero, AreStale, UnitsAscend, IsNotZero, AddsStale, AreNotZero, HasPiece, AreUnitsFrom, bytes_not_passed, IsReader, AddsUnits, HasStale}
 use Rattle.log_replay.specs.declared.half_reader.HalfReader.{HalfReader}
 use Rattle.log_replay.proofs.HalfLemmas.{no_units, units_read, between_join}
 
@@ -192,7 +192,7 @@ adds_more_units d first at count bytes old mid new le sound read adds so_far =
     record {
       bytes = so_far.bytes ++ bytes;
       units = between_join first at (at + count) so_far.bytes bytes d le (omega arith) so_far.units
-          (subst (λ (n : ℕ). AreUnits at n bytes d) many (units_read d at count bytes sound read));
+          (subst (λ (n : ℕ). AreUnitsFrom at n bytes d) many (units_read d at count bytes sound read));
       adds = adds_between first at (at + count) so_far.bytes bytes old mid new le (omega arith) so_far.units.size so_far.adds
           (subst (λ (n : ℕ). AddsStale at n bytes mid new) many adds);
     }
@@ -204,13 +204,13 @@ all_before d first at old new le so_far = all_more (first + (at - first)) at new
 -- ---- the units behind the records
 
 pub stale_found : (d : Disk) (h : HalfReader) (count : ℕ) (none mid new : List ℕ) → none ≡ [] → IsReader h → count ≡ h.next - h.at
-    → AddsStale h.at count (left_of h) none mid → AddsUnits d h.next h.end mid new → HasStale d h new
+    → AddsStale h.at count (bytes_not_passed h) none mid → AddsUnits d h.next h.end mid new → HasStale d h new
 stale_found d h count none mid new nothing reader many first later = record {
   more = later.bytes;
   read = later.units;
-  stale = only_these h.at (h.end - h.at) (left_of h ++ later.bytes) none new nothing
-      (adds_between h.at h.next h.end (left_of h) later.bytes none mid new reader.read reader.more reader.size
-      (subst (λ (n : ℕ). AddsStale h.at n (left_of h) none mid) many first) later.adds);
+  stale = only_these h.at (h.end - h.at) (bytes_not_passed h ++ later.bytes) none new nothing
+      (adds_between h.at h.next h.end (bytes_not_passed h) later.bytes none mid new reader.read reader.more reader.size
+      (subst (λ (n : ℕ). AddsStale h.at n (bytes_not_passed h) none mid) many first) later.adds);
 }
 
 -- ---- the units of a new store

@@ -11,7 +11,7 @@ use Rattle.block_device.specs.Prelude.{last, after_event, WritesUnit, Disk, Hist
 use Rattle.block_device.specs.declared.event.Event.{Event}
 use Rattle.block_device.specs.declared.event.Event.TheVariants.{Write, Done}
 use Rattle.block_device.proofs.LogLemmas.{last-push, unit_at-after_event, length-after_event, slice_get-push_cases}
-use Rattle.log_replay.specs.Prelude.{after_call, with_call, Called, Told, GoesOn, IsLater, EachWriteIsDone, IsZero, IsFirstRun, WasZeroed, WroteRuns, ZeroesOnly}
+use Rattle.log_replay.specs.Prelude.{after_call, with_call, Called, Told, GoesOn, IsLater, EachWriteIsDone, IsZero, IsRunAtFront, WasZeroed, WroteRuns, ZeroesOnly}
 use Rattle.log_replay.proofs.RunLemmas.{told_end, answered_call, RunsSoFar, runs_none, runs_more, runs_all, only_none, only_call, run_zeroes}
 
 -- ---- one call
@@ -149,7 +149,7 @@ zeroed_none units d sound idle below = record {
   only = λ first end between. (between, told_start (ZeroesOnly first end) d.history (only_none first end));
 }
 
-module _ (rest : List ℕ) (count : ℕ) (run : IsFirstRun rest count) (some : 0 < length rest) where
+module _ (rest : List ℕ) (count : ℕ) (run : IsRunAtFront rest count) (some : 0 < length rest) where
   -- a unit of the run, by its place, and a place for each unit of the run
   in_run : (unit : ℕ) → Contains (take count rest) unit → (j : ℕ) × (j < count) × (unit ≡ slice_index rest 0 + j)
   in_run unit here =

@@ -58,13 +58,13 @@ abbrev pub AreUnmarkedFree : Found → Space → Type 0
 AreUnmarkedFree f space = (unit : ℕ) → IsDataUnit f.sup unit → (is_free space unit ≡ true) ↔ (¬ IsMarked f.rows unit)
 
 -- Why what was found isn't opened.
-abbrev pub IsRefused : MountFail → Found → Type 0
-IsRefused Memory f = Unit {0}
-IsRefused NoSuper f = ⊥
-IsRefused (BadRow key) f = IsLeastBad f.sup f.rows key
-IsRefused (NotExact unit) f = NoBadRow f.sup f.rows × IsLeastInexact (width_of f.sup) f.rows unit
-IsRefused (WornOut value) f = NoBadRow f.sup f.rows × IsExactAs (width_of f.sup) f.rows f.rows × IsWornOut f value
-IsRefused Fault f = ⊥
+abbrev pub IsMountRefused : MountFail → Found → Type 0
+IsMountRefused Memory f = Unit {0}
+IsMountRefused NoSuper f = ⊥
+IsMountRefused (BadRow key) f = IsLeastBad f.sup f.rows key
+IsMountRefused (NotExact unit) f = NoBadRow f.sup f.rows × IsLeastInexact (width_of f.sup) f.rows unit
+IsMountRefused (WornOut value) f = NoBadRow f.sup f.rows × IsExactAs (width_of f.sup) f.rows f.rows × IsWornOut f value
+IsMountRefused Fault f = ⊥
 
 -- why no store is found at all
 abbrev pub IsUnfound : MountFail → Type 0
@@ -79,9 +79,9 @@ IsUnfound Fault = Unit {0}
 abbrev pub IsUnopenable : MountFail → List ℕ → Type 0
 IsUnopenable Memory contents = Unit {0}
 IsUnopenable NoSuper contents = HasNoSuper contents
-IsUnopenable (BadRow key) contents = (f : Found) × IsFoundIn contents f × IsRefused (BadRow key) f
-IsUnopenable (NotExact unit) contents = (f : Found) × IsFoundIn contents f × IsRefused (NotExact unit) f
-IsUnopenable (WornOut value) contents = (f : Found) × IsFoundIn contents f × IsRefused (WornOut value) f
+IsUnopenable (BadRow key) contents = (f : Found) × IsFoundIn contents f × IsMountRefused (BadRow key) f
+IsUnopenable (NotExact unit) contents = (f : Found) × IsFoundIn contents f × IsMountRefused (NotExact unit) f
+IsUnopenable (WornOut value) contents = (f : Found) × IsFoundIn contents f × IsMountRefused (WornOut value) f
 IsUnopenable Fault contents = Unit {0}
 
 -- The cause of each answer: of a fault that the count rose, of the others what the device holds.

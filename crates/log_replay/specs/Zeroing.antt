@@ -15,7 +15,7 @@ abbrev pub IsZero : History → ℕ → Type 0
 IsZero h unit = last_at h unit ≡ zeros 4096
 
 -- of the first units, ascending and one behind the other, so many are a run: as many as go on without a gap, at most 64
-pub record IsFirstRun (units : List ℕ) (count : ℕ) : Type 0 where
+pub record IsRunAtFront (units : List ℕ) (count : ℕ) : Type 0 where
   pub within : count ≤ length units
   pub most : count ≤ 64
   pub some : 0 < length units → 0 < count
@@ -30,7 +30,7 @@ pub record UnitRun : Type 0 where
 -- these are the runs of the units, one after another
 abbrev pub AreRuns : List ℕ → List UnitRun → Type 0
 AreRuns units [] = units ≡ []
-AreRuns units (run ∷ more) = (0 < length units) × IsFirstRun units run.count × (run.at ≡ slice_index units 0) × AreRuns (drop run.count units) more
+AreRuns units (run ∷ more) = (0 < length units) × IsRunAtFront units run.count × (run.at ≡ slice_index units 0) × AreRuns (drop run.count units) more
 
 -- for each run a write of zeros and its good end; the log had `place` events before
 abbrev pub run_events : ℕ → List UnitRun → List Event

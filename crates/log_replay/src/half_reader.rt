@@ -6,13 +6,13 @@
 ghost use Rattle.std.specs.Prelude.{◌≡◌, ◌≤◌, ◌<◌, ◌+◌, ◌*◌, ◌-◌, [], length, drop, OnOk, IfOk, IsErrOf, MatchOption};
 ghost use Rattle.block_device.specs.Prelude.{IsSound, Rose};
 ghost use Rattle.meta_log.specs.Prelude.{IsAtFront};
-ghost use Rattle.log_replay.specs.HalfReading.{left_of, IsReader, IsNew, Skips, ReadsOn, HasNoRecord, MayStand, HasStale};
+ghost use Rattle.log_replay.specs.HalfReading.{bytes_not_passed, IsReader, IsUnread, Skips, ReadsOn, HasNoRecord, MayStand, HasStale};
 
-use crate::stale::{MOST_UNITS, add_stale, add_stale_between};
+use crate::stale::{add_stale, add_stale_between};
 use block_device::{Device, Failed};
 use meta_log::{FoundRecord, read_record, record_units};
 use std::alloc::Global;
-use unit_fields::limits::UNIT_BYTES;
+use unit_fields::limits::{PIECE_UNITS, UNIT_BYTES};
 
 // Takes the bytes before a place away.
 fn cut_front(bytes: &mut Vec<u8>, start: usize)
@@ -45,7 +45,7 @@ pub struct HalfReader {
 impl HalfReader {
     /// The half from unit `first` to before `end`, of which nothing was read.
     pub fn new(alloc: Global, first: u32, end: u32) -> HalfReader
-        ensures { IsNew result first end }
+        ensures { IsUnread result first end }
     {
         HalfReader {
             bytes: Vec::new(alloc),
@@ -60,7 +60,7 @@ impl HalfReader {
     /// The bytes that were read and not passed over.
     fn left(&self) -> &[u8]
         requires { self.now.start ≤ length self.now.bytes.items }
-        ensures { result.now ≡ left_of self.now }
+        ensures { result.now ≡ bytes_not_passed self.now }
     {
         &self.bytes[self.start..]
     }
@@ -68,7 +68,7 @@ impl HalfReader {
     /// Passes over so many units.
     pub fn skip(&mut self, units: u32)
         requires reader { IsReader self.old }
-        requires there { 4096 * units ≤ length (left_of self.old) }
+        requires there { 4096 * units ≤ length (bytes_not_passed self.old) }
         ensures { Skips units self.old self.new }
     {
         self.start += units as usize * UNIT_BYTES;
@@ -79,7 +79,7 @@ impl HalfReader {
     fn shrink(&mut self)
         requires { IsReader self.old }
         ensures reader { IsReader self.new }
-        ensures left { left_of self.new ≡ left_of self.old }
+        ensures left { bytes_not_passed self.new ≡ bytes_not_passed self.old }
         ensures places { (self.new.at ≡ self.old.at) × (self.new.next ≡ self.old.next) × (self.new.end ≡ self.old.end) }
     {
         if self.start == self.bytes.len() {
@@ -101,7 +101,7 @@ impl HalfReader {
         ensures faults { D.faults dev.old ≤ D.faults dev.new }
         ensures cause { IsErrOf result Failed.Fault → Rose (D.faults dev.old) (D.faults dev.new) }
     {
-        let count = (self.end - self.next).min(MOST_UNITS);
+        let count = (self.end - self.next).min(PIECE_UNITS);
         self.start = 0;
         dev.read(self.next, count, &mut self.bytes)?;
         self.next += count;
@@ -119,7 +119,7 @@ impl HalfReader {
         ensures faults { D.faults dev.old ≤ D.faults dev.new }
         ensures cause { IsErrOf result Failed.Fault → Rose (D.faults dev.old) (D.faults dev.new) }
     {
-        let count = (self.end - self.next).min(MOST_UNITS);
+        let count = (self.end - self.next).min(PIECE_UNITS);
         dev.read(self.next, count, &mut self.piece)?;
         let Ok(()) = self.bytes.extend_from_slice(&self.piece) else {
             return Err(Failed::Memory);
@@ -153,7 +153,7 @@ impl HalfReader {
         requires enough { self.old.at + units ≤ self.old.end }
         ensures same { D.disk dev.new ≡ D.disk dev.old }
         ensures read { OnOk result (ReadsOn (D.disk dev.old) self.old self.new) }
-        ensures there { OnOk result (4096 * units ≤ length (left_of self.new)) }
+        ensures there { OnOk result (4096 * units ≤ length (bytes_not_passed self.new)) }
         ensures faults { D.faults dev.old ≤ D.faults dev.new }
         ensures cause { IsErrOf result Failed.Fault → Rose (D.faults dev.old) (D.faults dev.new) }
     {
@@ -204,7 +204,7 @@ impl HalfReader {
         requires inside { self.old.end ≤ (D.disk dev.old).units }
         ensures same { D.disk dev.new ≡ D.disk dev.old }
         ensures read { IfOk result (λ found. ReadsOn (D.disk dev.old) self.old self.new) }
-        ensures found { IfOk result (λ found. MatchOption found (HasNoRecord self.new number) (IsAtFront (left_of self.new) number)) }
+        ensures found { IfOk result (λ found. MatchOption found (HasNoRecord self.new number) (IsAtFront (bytes_not_passed self.new) number)) }
         ensures faults { D.faults dev.old ≤ D.faults dev.new }
         ensures cause { IsErrOf result Failed.Fault → Rose (D.faults dev.old) (D.faults dev.new) }
     {

@@ -7,7 +7,7 @@ ghost use Rattle.bitmap_freelist.specs.Bitmap.{AreMarked};
 ghost use Rattle.unit_allocator.specs.Prelude.{is_free, holds_of};
 ghost use Rattle.plan_rows.specs.Prelude.{IsGood};
 ghost use Rattle.run_facts.specs.Prelude.{IsSpaceOf};
-ghost use Rattle.log_replay.specs.Opening.{HasLowNumbers, IsWornOut, IsRefused};
+ghost use Rattle.log_replay.specs.Opening.{HasLowNumbers, IsWornOut, IsMountRefused};
 ghost use Rattle.log_replay.specs.FoundOn.{IsJudged, as_found};
 
 use crate::opening::MountFail;
@@ -26,7 +26,7 @@ fn units_of_rows(alloc: Global, found: &FoundStore) -> Result<UnitSet, MountFail
     requires { IsSuper found.now.sup }
     ensures good { OnOk result (IsGood found.now.sup found.now.log.rows.rows) }
     ensures marked { IfOk result (AreMarked found.now.log.rows.rows) }
-    ensures refused { IfErr result (λ fail. IsRefused fail (as_found found.now)) }
+    ensures refused { IfErr result (λ fail. IsMountRefused fail (as_found found.now)) }
 {
     match find_bad_row(alloc, &found.sup, &found.log.rows) {
         Ok(None) => {}
@@ -71,7 +71,7 @@ fn free_units(alloc: Global, sup: &Super, marked: &UnitSet) -> Result<Allocator,
 pub fn judge(alloc: Global, found: &FoundStore) -> Result<Allocator, MountFail>
     requires { IsSuper found.now.sup }
     ensures judged { IfOk result (IsJudged (as_found found.now)) }
-    ensures refused { IfErr result (λ fail. IsRefused fail (as_found found.now)) }
+    ensures refused { IfErr result (λ fail. IsMountRefused fail (as_found found.now)) }
 {
     let marked = units_of_rows(alloc, found)?;
     if let Some(value) = worn_out(found) {

@@ -9,10 +9,11 @@ ghost use Rattle.meta_log.specs.Prelude.{IsSuper, other_unit, AreRunsFrom};
 ghost use Rattle.log_replay.specs.OtherHalf.{AreRunsOn, AreGathered, EndsLast, AddsUnit, AddsPiece, GathersBelow};
 ghost use Rattle.log_replay.specs.Opening.{IsAbout};
 
-use crate::stale::{MOST_UNITS, is_zero_unit};
+use crate::stale::is_zero_unit;
 use block_device::{Device, Failed};
 use meta_log::{Super, UnitRun};
 use std::alloc::{AllocError, Global};
+use unit_fields::limits::PIECE_UNITS;
 
 /// Runs of units, gathered unit by unit.
 #[derive(Drop)]
@@ -96,7 +97,7 @@ fn gather<D: Device>(
     let mut bytes = Vec::new(alloc);
     let mut at = 0;
     'pieces: while at < count {
-        let units = (count - at).min(MOST_UNITS);
+        let units = (count - at).min(PIECE_UNITS);
         dev.read(first + at, units, &mut bytes)?;
         let Ok(()) = runs.add_piece(at, units, &bytes) else {
             return Err(Failed::Memory);

@@ -3,7 +3,7 @@ ghost use Rattle.std.specs.Prelude.{◌≡◌, ◌≤◌, ◌+◌, [], IfOk, IfE
 ghost use Rattle.block_device.specs.Prelude.{IsSound, Rose};
 ghost use Rattle.meta_log.specs.declared.slot.Super.{Super};
 ghost use Rattle.log_replay.specs.Opening.{FailsMount, IsUnfound};
-ghost use Rattle.log_replay.specs.HalfReading.{IsNew, HasReplayed, IsHalfRead};
+ghost use Rattle.log_replay.specs.HalfReading.{IsUnread, HasReplayed, IsHalfRead};
 ghost use Rattle.log_replay.specs.FoundOn.{IsFoundOn};
 
 use crate::gathering::Gathered;
@@ -45,7 +45,7 @@ fn replay<D: Device>(
     first: u64,
 ) -> Result<Replayed, Failed>
     requires idle { (D.disk dev.old).flights ≡ [] }
-    requires begin { IsNew half.old half.old.at half.old.end }
+    requires begin { IsUnread half.old half.old.at half.old.end }
     requires order { half.old.at ≤ half.old.end }
     requires inside { half.old.end ≤ (D.disk dev.old).units }
     ensures same { D.disk dev.new ≡ D.disk dev.old }

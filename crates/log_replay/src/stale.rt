@@ -8,9 +8,7 @@ ghost use Rattle.log_replay.specs.HalfReading.{AddsUnits};
 use block_device::{Device, Failed};
 use byte_maps::is_zero;
 use std::alloc::{AllocError, Global};
-
-/// The most units of one read.
-pub const MOST_UNITS: u32 = 64;
+use unit_fields::limits::PIECE_UNITS;
 
 /// Whether unit k of the bytes is zero.
 pub fn is_zero_unit(bytes: &[u8], k: usize) -> bool
@@ -55,7 +53,7 @@ pub fn add_stale_between<D: Device>(
     let mut bytes = buffer;
     let mut at = first;
     'pieces: while at < end {
-        let count = (end - at).min(MOST_UNITS);
+        let count = (end - at).min(PIECE_UNITS);
         dev.read(at, count, &mut bytes)?;
         let Ok(()) = add_stale(stale, at, count, &bytes) else {
             return Err(Failed::Memory);

@@ -3,21 +3,22 @@ ghost use Rattle.std.specs.Prelude.{◌≡◌, ◌≤◌, ◌<◌, ◌+◌, ◌*
 ghost use Rattle.byte_maps.specs.Units.{zeros};
 ghost use Rattle.block_device.specs.Prelude.{IsSound, Rose};
 ghost use Rattle.log_replay.specs.Calls.{Told, GoesOnToBadEnd, IsLater};
-ghost use Rattle.log_replay.specs.Zeroing.{IsFirstRun, WasZeroed, WroteRuns, ZeroesOnly};
+ghost use Rattle.log_replay.specs.Zeroing.{IsRunAtFront, WasZeroed, WroteRuns, ZeroesOnly};
 
 use crate::calls::write_through;
 use block_device::{Device, Failed};
 use std::alloc::{AllocError, Global};
+use unit_fields::limits::PIECE_UNITS;
 
-/// The most units of one write.
-const MOST_UNITS: usize = 64;
+// The most units of one write.
+const WRITE_UNITS: usize = PIECE_UNITS as usize;
 
 /// How many of the first units follow one another without a gap, at most 64.
 fn first_run(units: &[u32]) -> usize
-    ensures { IsFirstRun units.now result }
+    ensures { IsRunAtFront units.now result }
 {
     for (k, unit) in units.iter().enumerate() {
-        if k == MOST_UNITS || u64::from(*unit) != u64::from(units[0]) + k as u64 {
+        if k == WRITE_UNITS || u64::from(*unit) != u64::from(units[0]) + k as u64 {
             return k;
         }
     }

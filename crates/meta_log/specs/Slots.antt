@@ -16,12 +16,12 @@ abbrev pub version_bytes : List ℕ
 version_bytes = magic ++ to_le_bytes w32 1
 
 -- the fields, one behind the other
-abbrev pub field_bytes : Super → List ℕ
-field_bytes s = to_le_bytes w32 s.units ++ to_le_bytes w32 s.half ++ to_le_bytes w32 s.prefer ++ to_le_bytes w64 s.epoch ++ to_le_bytes w64 s.first
+abbrev pub super_field_bytes : Super → List ℕ
+super_field_bytes s = to_le_bytes w32 s.units ++ to_le_bytes w32 s.half ++ to_le_bytes w32 s.prefer ++ to_le_bytes w64 s.epoch ++ to_le_bytes w64 s.first
 
 -- the first 40 bytes of a slot
 abbrev pub super_front : Super → List ℕ
-super_front s = version_bytes ++ field_bytes s
+super_front s = version_bytes ++ super_field_bytes s
 
 -- the slot but for its checksum: its front, and zeros
 abbrev pub super_fields : Super → List ℕ

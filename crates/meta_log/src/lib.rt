@@ -22,5 +22,5 @@ pub use laws::{
 pub use rows_record::{RowsPiece, RowsRecord};
 pub use runs::{UnitRun, check_runs};
 pub use scanning::{FoundLog, FoundRecord, read_record, record_units, scan};
-pub use sealed::{HEAD_BYTES, SealedRecord};
+pub use sealed::{HEAD_BYTES, SealedRecord, units_of_body};
 pub use slot::Super;

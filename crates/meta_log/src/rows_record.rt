@@ -16,7 +16,7 @@ ghost use Rattle.meta_log.specs.Sealed.{IsSealable, sealed_units, piece_bytes};
 ghost use Rattle.meta_log.specs.RowsRecords.{body_summed, sealed_of};
 ghost use Rattle.meta_log.specs.RowsInside.{IsRecordOf, IsOneOn};
 
-use crate::sealed::{HEAD_BYTES, body_before, head_digest, headed, pieces_of, units_of};
+use crate::sealed::{HEAD_BYTES, body_before, head_digest, headed, pieces_of, units_of_body};
 use crc32c_csum::Digest;
 use meta_rows::{RowCursor, RowTable};
 use std::alloc::{AllocError, Global};
@@ -89,7 +89,7 @@ impl Progress {
             number,
             count,
             size,
-            units: units_of(HEAD_BYTES + size) as u32,
+            units: units_of_body(size) as u32,
             given: 0,
             front: RowCursor::end(),
             summed: RowCursor::start(alloc),

@@ -10,7 +10,7 @@ ghost use Rattle.meta_rows.specs.declared.row_op.RowOp.{RowOp};
 ghost use Rattle.meta_log.specs.Records.{head_of, BeginsWithRecord};
 ghost use Rattle.meta_log.specs.Scanning.{BeginsWithParts, IsCut, IsAtFront, BeginsNoRecord, TakesUnits, IsLogOf};
 
-use crate::sealed::{HEAD_BYTES, MAGIC, sum_of, units_of};
+use crate::sealed::{HEAD_BYTES, MAGIC, sum_of, units_of_body};
 use crate::slot::NUMBER_LIMIT;
 use byte_maps::{Items, is_zero};
 use meta_rows::{RowOp, decode};
@@ -77,7 +77,7 @@ fn padding_of(body: usize) -> usize
     requires { body < 2 ^ 32 }
     ensures { result ≡ 4096 * units_for (24 + body) - (24 + body) }
 {
-    units_of(HEAD_BYTES + body) * UNIT_BYTES - (HEAD_BYTES + body)
+    units_of_body(body) * UNIT_BYTES - (HEAD_BYTES + body)
 }
 
 // Whether the checksum is that of head and body, and there are zeros behind.
@@ -98,7 +98,7 @@ fn read_parts<'a>(bytes: &'a [u8], number: u64) -> Option<Parts<'a>>
     let body = fields.bytes(size as usize)?;
     let padding = fields.bytes(padding_of(body.len()))?;
     if is_intact(head, body, sum, padding) {
-        let units = units_of(HEAD_BYTES + body.len()) as u32;
+        let units = units_of_body(body.len()) as u32;
         Some(Parts { count, body, units })
     } else {
         None
@@ -140,7 +140,7 @@ pub fn record_units(bytes: &[u8], number: u64) -> Option<u32>
     ensures { MatchOption result (BeginsNoRecord bytes.now number) (TakesUnits bytes.now number) }
 {
     let head = read_head(&bytes[..SUMMED_HEAD], number)?;
-    Some(units_of(HEAD_BYTES + head.size as usize) as u32)
+    Some(units_of_body(head.size as usize) as u32)
 }
 
 // The bytes behind so many units.

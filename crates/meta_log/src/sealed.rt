@@ -61,10 +61,18 @@ impl Model for SealedRecord {
 
 // How many units hold so many bytes.
 pub(crate) fn units_of(bytes: usize) -> usize
-    requires { bytes < 2 ^ 33 }
+    requires { bytes < 2 ^ 44 }
     ensures { result ≡ units_for bytes }
 {
     (bytes + (UNIT_BYTES - 1)) / UNIT_BYTES
+}
+
+/// How many units a record takes whose operations are spelled in so many bytes.
+pub fn units_of_body(bytes: usize) -> usize
+    requires { bytes < 2 ^ 43 }
+    ensures { result ≡ units_for (24 + bytes) }
+{
+    units_of(HEAD_BYTES + bytes)
 }
 
 // Writes a head but for its checksum: of a body of so many bytes, of so many operations.
@@ -88,7 +96,7 @@ fn head(alloc: Global, number: u64, ops: &[RowOp], body: &[u8]) -> Result<Vec<u8
     requires body { length body.now < 2 ^ 32 }
     ensures { IfOk result (λ head. head.items ≡ head_of number (length ops.now) (length body.now)) }
 {
-    let mut head = Vec::with_capacity(alloc, units_of(HEAD_BYTES + body.len()) * UNIT_BYTES)?;
+    let mut head = Vec::with_capacity(alloc, units_of_body(body.len()) * UNIT_BYTES)?;
     push_head(&mut head, number, ops.len() as u32, body.len() as u32)?;
     Ok(head)
 }
@@ -233,7 +241,7 @@ impl SealedRecord {
         ensures { IfOk result (λ made. made ≡ record { number = number; ops = ops.items }) }
     {
         let size = encoded_len(&ops);
-        let units = units_of(HEAD_BYTES + size) as u32;
+        let units = units_of_body(size) as u32;
         let cut = cut_if_several(alloc, number, &ops, size, units)?;
         Ok(SealedRecord {
             number,

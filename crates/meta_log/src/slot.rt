@@ -2,7 +2,7 @@
 ghost use Rattle.std.specs.Prelude.{◌≡◌, ◌≢◌, ◌↔◌, ◌<◌, ◌^◌, ◌++◌, ℕ, List, length, IsTrue, IfOk, OnOk, MatchOption};
 ghost use Rattle.byte_maps.specs.Units.{zeros};
 ghost use Rattle.meta_log.specs.declared.slot.Super.{Super};
-ghost use Rattle.meta_log.specs.Slots.{version_bytes, field_bytes, super_front, super_bytes, width_of, active_unit, IsSummed, IsSuper, IsSlotOf};
+ghost use Rattle.meta_log.specs.Slots.{version_bytes, super_field_bytes, super_front, super_bytes, width_of, active_unit, IsSummed, IsSuper, IsSlotOf};
 ghost use Rattle.meta_log.specs.Slots.{other_slot, other_unit, next_super};
 
 use byte_maps::is_zero;
@@ -71,7 +71,7 @@ fn read_version(fields: &mut Fields) -> Option<()>
 }
 
 fn read_numbers(fields: &mut Fields) -> Option<Super>
-    ensures { MatchOption result (length fields.old < 28) (λ s. fields.old ≡ field_bytes s ++ fields.new) }
+    ensures { MatchOption result (length fields.old < 28) (λ s. fields.old ≡ super_field_bytes s ++ fields.new) }
 {
     Some(Super {
         units: fields.u32()?,

@@ -1,4 +1,5 @@
 -- Rows in chunks: which chunk a key belongs into, and what a change of one chunk makes of all.
+use Rattle.std.specs.Prelude.{Ok, Err}
 use Rattle.std.proofs.Common.{◌≡◌, ◌⊎◌, ℕ, zero, suc, ◌+◌, ◌-◌, ◌*◌, ◌<◌, ◌≤◌, ◌%◌, T, List, [], ◌∷◌, ◌++◌, length, get_or, set, take, drop, refl, sym, ap, ap₂, subst, ◌∙◌, arith, append_assoc, append-nil, inl, inr}
 use Rattle.std.specs.List.{AllByRecursion, HoldsAt, remove}
 use Rattle.std.specs.List.Sorted.{IsNonDecreasingBy, IsPartitionPoint}
@@ -11,10 +12,10 @@ use Rattle.std.specs.FinMap.Entries.{below_all}
 use Rattle.std.specs.Vec.{vec_len, vec_capacity}
 use Rattle.std.proofs.lemmas.List.{length-append, length-take-le, take_at, get_or_at, get_or-drop, set_at, drop_all, get_or_read}
 use Rattle.byte_maps.specs.ByteMap.{byte_order}
-use Rattle.byte_maps.proofs.Prelude.{same_bytes, both_first, both_second, below_more}
-use Rattle.meta_rows.specs.Prelude.{key_of, AllBelow, entries_after, list_size, GrowsBy, Entry, joined, first_order, IsPastLast, beyond_parts, crowd, NoneEmpty, NoneLonger, AllEmpty, BelongsIn, IsChunked, HasRoom, IsOpen, IsSplit, IsRearranged}
+use Rattle.byte_maps.proofs.Prelude.{same_bytes, both_first, both_second, below_more, comparisons_rise}
+use Rattle.meta_rows.specs.Prelude.{key_of, AllBelow, entries_after, list_size, GrowsBy, Entry, joined, first_order, IsPastLast, beyond_parts, crowd, NoneEmpty, NoneLonger, AllEmpty, BelongsIn, IsChunked, HasSpares, IsMadeReady, IsSplit, IsRearranged, IsKeyPlace}
 use Rattle.meta_rows.specs.declared.chunk_list.ChunkList.{ChunkList}
-use Rattle.meta_rows.proofs.PartLemmas.{both, less, holds, so, sorted_front, sorted_back, find_part, after_part, after_sorted, after_long}
+use Rattle.meta_rows.proofs.PartLemmas.{both, less, holds, so, turned, sorted_front, sorted_back, find_part, after_part, after_sorted, after_long}
 use Rattle.meta_rows.proofs.ListSizes.{part_grows}
 use Rattle.meta_rows.specs.declared.row_op.RowOp.{RowOp}
 
@@ -118,6 +119,31 @@ module _ (key : List ℕ) where
   behind_equal (e ∷ chunk) rest h is =
       back_below chunk rest (subst (λ (k : List ℕ). T (below_all byte_order k (chunk ++ rest))) (same_bytes e.0 key is) (both_first _ _ h))
 
+  -- of rows in order one isn't above, so the first one isn't
+  below_place : (x : List ℕ) (es : List Entry) (i : ℕ) (d : Entry) → T (below_all byte_order x es) → i < length es → byte_order x (get_or es i d).0 ≡ Less
+  below_place x [] i d h l = absurd (omega arith)
+  below_place x (e ∷ es) zero d h l = less _ (holds _ (both_first _ _ h))
+  below_place x (e ∷ es) (suc i) d h l = below_place x es i d (both_second _ _ h) (omega arith)
+
+  not_above : (chunk : List Entry) (i : ℕ) → T (is_sorted byte_order chunk) → i < length chunk → (byte_order (get_or chunk i ([], [])).0 key ≡ Greater → ⊥) → first_order key chunk ≡ Greater → ⊥
+  not_above [] i h l low is = absurd (omega arith)
+  not_above (e ∷ chunk) zero h l low is = low is
+  not_above (e ∷ chunk) (suc i) h l low is =
+      let above = nat_list_cmp_total.antisymm key e.0 ∙ ap ordering_reverse is in
+      let later = below_more key e.0 chunk above (both_first _ _ h) in
+      low (turned key (get_or chunk i ([], [])).0 (below_place key chunk i ([], []) later (omega arith)))
+
+  -- one isn't below, so those behind are above
+  behind_row : (chunk rest : List Entry) (i : ℕ) → T (is_sorted byte_order (chunk ++ rest)) → i < length chunk → (byte_order (get_or chunk i ([], [])).0 key ≡ Less → ⊥) → T (below_all byte_order key rest)
+  behind_row [] rest i h l high = absurd (omega arith)
+  behind_row (e ∷ chunk) rest (suc i) h l high = behind_row chunk rest i (both_second _ _ h) (omega arith) high
+  behind_row (e ∷ chunk) rest zero h l high =
+      elim (byte_order e.0 key) as (λ o. byte_order e.0 key ≡ o → T (below_all byte_order key rest)) [
+        | Less ↦ λ q. absurd (high q)
+        | Equal ↦ λ q. back_below chunk rest (subst (λ (k : List ℕ). T (below_all byte_order k (chunk ++ rest))) (same_bytes e.0 key q) (both_first _ _ h))
+        | Greater ↦ λ q. back_below chunk rest (below_more key e.0 (chunk ++ rest) (nat_list_cmp_total.antisymm key e.0 ∙ ap ordering_reverse q) (both_first _ _ h))
+      ] refl
+
   chunks_above : (chunks : List (List Entry)) → T (is_sorted byte_order (joined chunks)) → (0 < length chunks → first_order key (get_or chunks 0 []) ≡ Greater)
       → T (below_all byte_order key (joined chunks))
   chunks_above [] h g = tt
@@ -148,6 +174,47 @@ zero_is_less : (o : Ordering) → ordering_index o ≤ 0 → o ≡ Less
 zero_is_less Less h = refl
 zero_is_less Equal h = absurd (omega (arith, h))
 zero_is_less Greater h = absurd (omega (arith, h))
+
+two_is_greater : (o : Ordering) → 2 ≤ ordering_index o → o ≡ Greater
+two_is_greater Less h = absurd (omega (arith, h))
+two_is_greater Equal h = absurd (omega (arith, h))
+two_is_greater Greater h = refl
+
+less_not : (o : Ordering) → o ≡ Less → o ≡ Greater → ⊥
+less_not Less p q = absurd cc
+less_not Equal p q = absurd cc
+less_not Greater p q = absurd cc
+
+equal_not : (o : Ordering) → o ≡ Equal → (o ≡ Less → ⊥) × (o ≡ Greater → ⊥)
+equal_not Less p = absurd cc
+equal_not Equal p = (λ q. absurd cc, λ q. absurd cc)
+equal_not Greater p = absurd cc
+
+greater_not : (o : Ordering) → o ≡ Greater → o ≡ Less → ⊥
+greater_not Less p q = absurd cc
+greater_not Equal p q = absurd cc
+greater_not Greater p q = absurd cc
+
+-- the place behind a row that is below, and before the next one, which is above if there is one
+pub between_two : (key : List ℕ) (es : List Entry) (before : ℕ) → before < length es → ((d : Entry) → byte_order (get_or es before d).0 key ≡ Less)
+    → (before + 1 < length es → (d : Entry) → byte_order (get_or es (before + 1) d).0 key ≡ Greater) → IsKeyPlace key es (Err (before + 1))
+between_two key es before l low high = (
+  omega (arith, l),
+  λ up. (
+    λ k d a b. let le = up k before d (omega arith) l in zero_is_less (byte_order (get_or es k d).0 key) (omega (arith, le, ap ordering_index (low d))),
+    λ k d a b. let le = up (before + 1) k d a b in
+        two_is_greater (byte_order (get_or es k d).0 key) (omega (arith, le, ap ordering_index (high (omega (arith, a, b)) d))),
+  ),
+)
+
+-- and the one among no rows
+pub place_of_none : (key : List ℕ) (es : List Entry) → es ≡ [] → IsKeyPlace key es (Err 0)
+place_of_none key es none = (omega arith, λ up. (λ k d a b. absurd (omega (arith, b)), λ k d a b. absurd (omega (arith, b, ap length none))))
+
+-- how the row at a place compares
+pub row_order : (key : List ℕ) (es : List Entry) (i : ℕ) (row : Entry) (o : Ordering) → i < length es → row ≡ get_or es i row → byte_order row.0 key ≡ o
+    → (d : Entry) → byte_order (get_or es i d).0 key ≡ o
+row_order key es i row o l is e d = ap (λ (r : Entry). byte_order r.0 key) (sym (get_or_read es i row l is d)) ∙ e
 
 -- a key above the last one comes behind all
 pub past_all : (key : List ℕ) (es : List Entry) → IsPastLast key es → IsNonDecreasingBy (λ e. ordering_index (byte_order e.0 key)) es
@@ -259,6 +326,40 @@ module _ (key : List ℕ) where
         on : (at : ℕ) → suc at + 0 ≡ at + 1
         on at = omega arith
 
+    chunk_order : (at : ℕ) → at < length chunks → T (is_sorted byte_order (get_or chunks at []))
+    chunk_order at l = sorted_front (get_or chunks at []) _ (sorted_back (joined (take at chunks)) _ (order_at at l))
+
+    -- a chunk with a row that isn't above the key, and one that isn't below
+    between_rows : (at i j : ℕ) → at < length chunks → i < length (get_or chunks at []) → j < length (get_or chunks at [])
+        → (byte_order (get_or (get_or chunks at []) i ([], [])).0 key ≡ Greater → ⊥) → (byte_order (get_or (get_or chunks at []) j ([], [])).0 key ≡ Less → ⊥) → BelongsIn key chunks at
+    between_rows at i j l p q low high = belongs at l (λ _. not_above key (get_or chunks at []) i (chunk_order at l) p low)
+        (behind_row key (get_or chunks at []) (joined (drop (suc at) chunks)) j (sorted_back (joined (take at chunks)) _ (order_at at l)) q high)
+
+    -- a key with a place in the chunk
+    pub belongs_found : (at i : ℕ) → at < length chunks → IsKeyPlace key (get_or chunks at []) (Ok i) → BelongsIn key chunks at
+    belongs_found at i l place = between_rows at i i l place.0 place.0 (equal_not _ (place.1 ([], []))).1 (equal_not _ (place.1 ([], []))).0
+
+    before_place : (at i : ℕ) → at < length chunks → (i ≡ 0 → ⊥) → IsKeyPlace key (get_or chunks at []) (Err i) → byte_order (get_or (get_or chunks at []) (i - 1) ([], [])).0 key ≡ Greater → ⊥
+    before_place at i l some place = less_not _ ((place.1 (comparisons_rise key (get_or chunks at []) (chunk_order at l))).0 (i - 1) ([], []) (omega arith) (below_it i some))
+      where
+        below_it : (i : ℕ) → (i ≡ 0 → ⊥) → i - 1 < i
+        below_it zero some = absurd (some refl)
+        below_it (suc i) some = omega arith
+
+    pub belongs_among : (at i : ℕ) → at < length chunks → (i ≡ 0 → ⊥) → i < length (get_or chunks at []) → IsKeyPlace key (get_or chunks at []) (Err i) → BelongsIn key chunks at
+    belongs_among at i l some within place =
+        between_rows at (i - 1) i l (omega (arith, within)) within (before_place at i l some place)
+        (greater_not _ ((place.1 (comparisons_rise key (get_or chunks at []) (chunk_order at l))).1 i ([], []) (omega arith) within))
+
+    pub belongs_behind : (at i : ℕ) → at < length chunks → (i ≡ 0 → ⊥) → IsKeyPlace key (get_or chunks at []) (Err i)
+        → (at + 1 ≡ length chunks) ⊎ (first_order key (get_or chunks (at + 1) []) ≡ Greater) → BelongsIn key chunks at
+    belongs_behind at i l some place next =
+        belongs_here at l (λ _. not_above key (get_or chunks at []) (i - 1) (chunk_order at l) (last_before i some place.0) (before_place at i l some place)) next
+      where
+        last_before : (i : ℕ) → (i ≡ 0 → ⊥) → i ≤ length (get_or chunks at []) → i - 1 < length (get_or chunks at [])
+        last_before zero some le = absurd (some refl)
+        last_before (suc i) some le = omega (arith, le)
+
 -- ---- the chunk of a key
 
 module _ {key : List ℕ} {chunks : List (List Entry)} {at : ℕ} (b : BelongsIn key chunks at) where
@@ -320,7 +421,7 @@ beyond_parts_most (c ∷ chunks) most =
     let g : (length c - 96) + beyond_parts chunks ≤ 32 * suc (length chunks) = omega (arith, most.0, beyond_parts_most chunks most.1) in g
 
 -- enough spare chunks
-pub has_room : (ops want many : ℕ) (g : ChunkList) → NoneLonger g.list.items → length g.list.items ≡ many → (want < ops → ops + 32 + 32 * many ≤ 32 * want) → want ≤ vec_len g.spare → HasRoom ops g
+pub has_room : (ops want many : ℕ) (g : ChunkList) → NoneLonger g.list.items → length g.list.items ≡ many → (want < ops → ops + 32 + 32 * many ≤ 32 * want) → want ≤ vec_len g.spare → HasSpares ops g
 has_room ops want many g most same enough made few =
     let bound = enough (omega (arith, made, few)) in
     omega (arith, bound, made, same, crowd_most g.list.items, beyond_parts_most g.list.items most)
@@ -329,7 +430,7 @@ has_room ops want many g most same enough made few =
 
 -- a first chunk where there was none
 pub begins : (old new : ChunkList) (chunk : List Entry) (key : List ℕ) → IsChunked old → old.list.items ≡ [] → new.list.items ≡ old.list.items ++ chunk ∷ [] → old.spare.items ≡ new.spare.items ++ chunk ∷ []
-    → vec_len new.list ≡ vec_len old.list + 1 → vec_len new.spare + 1 ≡ vec_len old.spare → vec_capacity new.list ≡ vec_capacity old.list → vec_capacity new.spare ≡ vec_capacity old.spare → IsOpen key old new 0
+    → vec_len new.list ≡ vec_len old.list + 1 → vec_len new.spare + 1 ≡ vec_len old.spare → vec_capacity new.list ≡ vec_capacity old.list → vec_capacity new.spare ≡ vec_capacity old.spare → IsMadeReady key old new 0
 begins old new chunk key was none pushed popped many fewer places spares =
     let free : AllEmpty (new.spare.items ++ chunk ∷ []) = subst AllEmpty popped was.free in
     let empty : chunk ≡ [] = (all_back (λ (c : List Entry). c ≡ []) new.spare.items (chunk ∷ []) free).0 in
@@ -348,8 +449,14 @@ begins old new chunk key was none pushed popped many fewer places spares =
       room = λ n room lt. let left = room (omega (arith, lt, fewer)) in let now : beyond_parts new.list.items ≡ 0 = ap beyond_parts is ∙ (omega arith) in omega (arith, left, ap crowd none, now, fewer);
     }
 
+pub first_empty : (old : ChunkList) (list spare : List (List Entry)) (chunk : List Entry) → IsChunked old → old.list.items ≡ [] → list ≡ old.list.items ++ chunk ∷ [] → old.spare.items ≡ spare ++ chunk ∷ []
+    → get_or list 0 [] ≡ []
+first_empty old list spare chunk was none pushed popped =
+    ap (λ (l : List (List Entry)). get_or l 0 []) (pushed ∙ ap (λ (l : List (List Entry)). l ++ chunk ∷ []) none)
+    ∙ (all_back (λ (c : List Entry). c ≡ []) spare (chunk ∷ []) (subst AllEmpty popped was.free)).0
+
 -- a chunk that isn't full
-pub open_as_is : (key : List ℕ) (g : ChunkList) (at : ℕ) → IsChunked g → (b : BelongsIn key g.list.items at) → length b.chunk < 128 → IsOpen key g g at
+pub open_as_is : (key : List ℕ) (g : ChunkList) (at : ℕ) → IsChunked g → (b : BelongsIn key g.list.items at) → length b.chunk < 128 → IsMadeReady key g g at
 open_as_is key g at was b short = record {
   belongs = b;
   rows = refl;
@@ -394,7 +501,7 @@ module _ (key : List ℕ) (old new : ChunkList) (at : ℕ) (was : IsChunked old)
   order : T (is_sorted byte_order (joined b.front ++ (s.lower ++ (s.upper ++ joined b.back))))
   order = subst (λ (es : List Entry). T (is_sorted byte_order es)) before_is was.order
 
-  room_is : (n : ℕ) → HasRoom (suc n) old → vec_len new.spare < n → suc n + beyond_parts new.list.items ≤ 32 * vec_len new.spare
+  room_is : (n : ℕ) → HasSpares (suc n) old → vec_len new.spare < n → suc n + beyond_parts new.list.items ≤ 32 * vec_len new.spare
   room_is n room lt =
       let left = room (omega (arith, lt, s.spare)) in
       let all = ap crowd b.is ∙ crowd_some b.front b.chunk b.back in
@@ -417,7 +524,7 @@ module _ (key : List ℕ) (old new : ChunkList) (at : ℕ) (was : IsChunked old)
   upper_at d = ap (λ (l : List (List Entry)). get_or l (at + 1) d) (now_is ∙ in_two)
       ∙ get_or_at (b.front ++ s.lower ∷ []) s.upper b.back d (at + 1) (omega (arith, length-append b.front (s.lower ∷ []), b.place))
 
-  pub open_lower : first_order key s.upper ≡ Greater → IsOpen key old new at
+  pub open_lower : first_order key s.upper ≡ Greater → IsMadeReady key old new at
   open_lower above = record {
     belongs = record {
       front = b.front;
@@ -447,7 +554,7 @@ module _ (key : List ℕ) (old new : ChunkList) (at : ℕ) (was : IsChunked old)
   order_upper = subst (λ (es : List Entry). T (is_sorted byte_order es)) (sym (append_assoc (joined b.front) s.lower (s.upper ++ joined b.back))
       ∙ ap (λ (l : List Entry). l ++ (s.upper ++ joined b.back)) (sym joined_front)) order
 
-  pub open_upper : (first_order key s.upper ≡ Greater → ⊥) → IsOpen key old new (at + 1)
+  pub open_upper : (first_order key s.upper ≡ Greater → ⊥) → IsMadeReady key old new (at + 1)
   open_upper low = record {
     belongs = record {
       front = b.front ++ s.lower ∷ [];
@@ -472,7 +579,7 @@ module _ (key : List ℕ) (old new : ChunkList) (at : ℕ) (was : IsChunked old)
 
 -- ---- an operation in the chunk that was made ready
 
-module _ (op : RowOp) (old mid : ChunkList) (at : ℕ) (was : IsChunked old) (o : IsOpen (key_of op) old mid at) (held : List Entry) (here : held ≡ get_or mid.list.items at held) where
+module _ (op : RowOp) (old mid : ChunkList) (at : ℕ) (was : IsChunked old) (o : IsMadeReady (key_of op) old mid at) (held : List Entry) (here : held ≡ get_or mid.list.items at held) where
   held_is : held ≡ o.belongs.chunk
   held_is = here ∙ chunk_is o.belongs held
 
@@ -525,7 +632,7 @@ module _ (op : RowOp) (old mid : ChunkList) (at : ℕ) (was : IsChunked old) (o 
       spares = omega (arith, o.spares, many, free, spares);
     }
 
-    pub set_room : (n : ℕ) → HasRoom (suc n) old → vec_len mid.spare < n → n + crowd (set mid.list.items at chunk) ≤ 32 * vec_len mid.spare
+    pub set_room : (n : ℕ) → HasSpares (suc n) old → vec_len mid.spare < n → n + crowd (set mid.list.items at chunk) ≤ 32 * vec_len mid.spare
     set_room n room lt =
         let left = o.room n room lt in
         let before = ap beyond_parts o.belongs.is ∙ beyond_parts-append o.belongs.front (o.belongs.chunk ∷ o.belongs.back) in
@@ -556,7 +663,7 @@ module _ (op : RowOp) (old mid : ChunkList) (at : ℕ) (was : IsChunked old) (o 
             spares = omega (arith, o.spares, many, free, spares);
           }
 
-      pub removed_room : (n spare : ℕ) → HasRoom (suc n) old → spare ≡ vec_len mid.spare + 1 → spare < n → n + crowd (remove (set mid.list.items at chunk) at) ≤ 32 * spare
+      pub removed_room : (n spare : ℕ) → HasSpares (suc n) old → spare ≡ vec_len mid.spare + 1 → spare < n → n + crowd (remove (set mid.list.items at chunk) at) ≤ 32 * spare
       removed_room n spare room more lt =
           let left = o.room n room (omega (arith, more, lt)) in
           let before = ap beyond_parts o.belongs.is ∙ beyond_parts-append o.belongs.front (o.belongs.chunk ∷ o.belongs.back) in
@@ -693,7 +800,7 @@ module _ (old new : ChunkList) (was : IsChunked old) (list : new.list ≡ old.li
     spares = omega (arith, was.spares, ap vec_len list, places, len);
   }
 
-  pub room_left : (room want many : ℕ) → want ≤ most → length old.list.items ≡ many → (want < room → room + 32 + 32 * many ≤ 32 * want) → HasRoom room old → HasRoom room new
+  pub room_left : (room want many : ℕ) → want ≤ most → length old.list.items ≡ many → (want < room → room + 32 + 32 * many ≤ 32 * want) → HasSpares room old → HasSpares room new
   room_left room want many enough long wants had few =
       let bound : crowd new.list.items ≤ 32 + 32 * many =
       omega (arith, crowd_most new.list.items, beyond_parts_most new.list.items given_back.most, ap length items, long) in

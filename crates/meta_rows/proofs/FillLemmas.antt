@@ -15,7 +15,7 @@ use Rattle.std.proofs.lemmas.List.Sorted.{sorted_far}
 use Rattle.byte_maps.specs.ByteMap.{byte_order}
 use Rattle.byte_maps.proofs.Prelude.{same_bytes}
 use Rattle.meta_rows.specs.declared.row_op.RowOp.{RowOp}
-use Rattle.meta_rows.specs.Prelude.{key_of, AllBelow, entries_after, value_left, with_value, list_size, Entry, joined, NoneEmpty, NoneLonger, AllEmpty, Rises, held_rows, held_value, row_left, rows_of, gap, IsShaped, IsAppended, IsFilling, Holds, NotBelow, Awaits}
+use Rattle.meta_rows.specs.Prelude.{key_of, AllBelow, entries_after, value_left, with_value, list_size, Entry, joined, NoneEmpty, NoneLonger, AllEmpty, Rises, held_rows, held_value, row_left, rows_of, gap, IsShaped, IsAppended, IsFilling, HoldsKey, NotBelow, Awaits}
 use Rattle.meta_rows.specs.declared.chunk_list.ChunkList.{ChunkList}
 use Rattle.meta_rows.specs.declared.filling.Filling.{Filling}
 use Rattle.meta_rows.proofs.PartLemmas.{less, after_part, after_sorted}
@@ -134,7 +134,7 @@ found_one : (op : RowOp) (row : Entry) → row.0 ≡ key_of op → find byte_ord
 found_one op row is = ap (λ o. cond (is_eq o) (Some row.1) None) (ap (byte_order (key_of op)) is ∙ own_order _ (nat_list_cmp_total.antisymm (key_of op) (key_of op)))
 
 -- an operation behind the rows in the chunks, on the row that is held back
-pub changed_held : (op : RowOp) (done : List Entry) (held : Option Entry) → AllBelow (key_of op) done → Holds (key_of op) held
+pub changed_held : (op : RowOp) (done : List Entry) (held : Option Entry) → AllBelow (key_of op) done → HoldsKey (key_of op) held
     → done ++ held_rows (row_left (key_of op) (value_left (held_value held) op)) ≡ entries_after (done ++ held_rows held) op
 changed_held op done None below holds = absurd holds
 changed_held op done (Some row) below holds = sym (
@@ -189,8 +189,8 @@ none_behind f was none = sym (ap (λ h. joined f.all.list.items ++ held_rows h) 
 
 -- ---- what the row that is held back tells
 
-pub has_key : (key : List ℕ) (held : Option Entry) (row : Entry) → held ≡ Some row → byte_order row.0 key ≡ Equal → Holds key held
-has_key key held row is e = subst (Holds key) (sym is) (same_bytes row.0 key e)
+pub has_key : (key : List ℕ) (held : Option Entry) (row : Entry) → held ≡ Some row → byte_order row.0 key ≡ Equal → HoldsKey key held
+has_key key held row is e = subst (HoldsKey key) (sym is) (same_bytes row.0 key e)
 
 pub held_under : (key : List ℕ) (held : Option Entry) (row : Entry) → held ≡ Some row → (byte_order row.0 key ≡ Equal → ⊥) → NotBelow key held → AllBelow key (held_rows held)
 held_under key held row is differ low = subst (λ h. AllBelow key (held_rows h)) (sym is) (held_below key row differ (subst (NotBelow key) is low))

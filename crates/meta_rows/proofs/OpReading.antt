@@ -4,7 +4,7 @@ use Rattle.std.proofs.lemmas.List.{length-append}
 use Rattle.std.proofs.lemmas.List.Concat.{flat_map-cons}
 use Rattle.meta_rows.specs.declared.row_op.RowOp.{RowOp}
 use Rattle.meta_rows.specs.declared.row_op.RowOp.TheVariants.{Set, Drop, Flip}
-use Rattle.meta_rows.specs.Prelude.{key_bytes, value_bytes, op_bytes, ops_bytes, IsKey, FitsRowOp, AllFit, IsValue, BeginsWithNo, Reads, SpellOps}
+use Rattle.meta_rows.specs.Prelude.{key_bytes, value_bytes, op_bytes, ops_bytes, IsKey, FitsRowOp, AllFit, IsValue, BeginsWithNo, ReadsFront, SpellOps}
 use Rattle.meta_rows.proofs.Ops.{key_front, op_front, length-op_bytes}
 
 -- behind the key of a set or of a flip there is a value
@@ -14,7 +14,7 @@ value_there key mid k v rest is_key is_k short is none =
     none v rest short (key_front key k mid (value_bytes v ++ rest) is_key is_k (is ∙ append_assoc (key_bytes k) (value_bytes v) rest)).1
 
 -- where there is none, no operation stands there but a drop
-pub value_missing : (code : ℕ) (bytes behind mid key : List ℕ) → bytes ≡ code ∷ behind → Reads IsKey key_bytes behind mid key → code ≢ 2
+pub value_missing : (code : ℕ) (bytes behind mid key : List ℕ) → bytes ≡ code ∷ behind → ReadsFront IsKey key_bytes behind mid key → code ≢ 2
     → BeginsWithNo IsValue value_bytes mid → BeginsWithNo FitsRowOp op_bytes bytes
 value_missing code bytes behind mid key is read other none (Set k v) rest fits e =
     value_there key mid k v rest read.fits fits.0 fits.1 (let same : behind ≡ (key_bytes k ++ value_bytes v) ++ rest = cc in sym read.spelled ∙ same) none

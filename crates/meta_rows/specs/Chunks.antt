@@ -1,6 +1,7 @@
 -- The rows in chunks.
-use Rattle.std.specs.Prelude.{◌≡◌, ℕ, suc, ◌+◌, ◌-◌, ◌*◌, ◌<◌, ◌≤◌, T, List, [], ◌∷◌, ◌++◌, length, take, drop, get_or}
+use Rattle.std.specs.Prelude.{◌≡◌, ℕ, suc, ◌+◌, ◌-◌, ◌*◌, ◌<◌, ◌≤◌, T, List, [], ◌∷◌, ◌++◌, length, take, drop, get_or, Result}
 use Rattle.std.specs.List.{AllByRecursion}
+use Rattle.std.specs.List.Sorted.{IsSearchInRange, IsBinarySearchResult}
 use Rattle.std.specs.declared.cmp.Ordering.{Ordering}
 use Rattle.std.specs.declared.cmp.Ordering.TheVariants.{Less, Equal}
 use Rattle.std.specs.FinMap as map
@@ -23,6 +24,10 @@ joined (chunk ∷ chunks) = chunk ++ joined chunks
 abbrev pub first_order : List ℕ → List Entry → Ordering
 first_order key [] = Less
 first_order key (row ∷ rows) = byte_order row.0 key
+
+-- where `key` stands among rows, or where it would go
+abbrev pub IsKeyPlace : List ℕ → List Entry → Result ℕ ℕ → Type 0
+IsKeyPlace key rows place = IsSearchInRange place (length rows) × IsBinarySearchResult (λ row. byte_order row.0 key) rows place
 
 -- `key` is above the last key, and so above all where they are in order
 abbrev pub IsPastLast : List ℕ → List Entry → Type 0
@@ -72,11 +77,11 @@ pub record IsChunked (g : ChunkList) : Type 0 where
 
 -- n operations find the spare chunks that they need. Each splits one chunk at most, and only one of 128 rows; the two parts then take 31 rows or
 -- more before they are split again
-abbrev pub HasRoom : ℕ → ChunkList → Type 0
-HasRoom n g = vec_len g.spare < n → n + crowd g.list.items ≤ 32 * vec_len g.spare
+abbrev pub HasSpares : ℕ → ChunkList → Type 0
+HasSpares n g = vec_len g.spare < n → n + crowd g.list.items ≤ 32 * vec_len g.spare
 
 -- a chunk was made ready for a key: it has room for one row more
-pub record IsOpen (key : List ℕ) (old new : ChunkList) (at : ℕ) : Type 0 where
+pub record IsMadeReady (key : List ℕ) (old new : ChunkList) (at : ℕ) : Type 0 where
   pub belongs : BelongsIn key new.list.items at
   pub rows : joined new.list.items ≡ joined old.list.items
   pub short : length belongs.chunk < 128
@@ -87,7 +92,7 @@ pub record IsOpen (key : List ℕ) (old new : ChunkList) (at : ℕ) : Type 0 whe
   pub free : AllEmpty new.spare.items
   pub places : vec_len new.list + vec_len new.spare ≤ vec_capacity new.list
   pub spares : vec_len new.list + vec_len new.spare ≤ vec_capacity new.spare
-  pub room : (n : ℕ) → HasRoom (suc n) old → vec_len new.spare < n → suc n + beyond_parts new.list.items ≤ 32 * vec_len new.spare
+  pub room : (n : ℕ) → HasSpares (suc n) old → vec_len new.spare < n → suc n + beyond_parts new.list.items ≤ 32 * vec_len new.spare
 
 -- the chunk at a place is now two
 pub record IsSplit (at : ℕ) (old new : ChunkList) : Type 0 where
@@ -106,7 +111,7 @@ pub record IsSplit (at : ℕ) (old new : ChunkList) : Type 0 where
 pub record IsRearranged (old new : ChunkList) : Type 0 where
   pub rows : joined new.list.items ≡ joined old.list.items
   pub chunked : IsChunked new
-  pub room : (n : ℕ) → HasRoom n old → HasRoom n new
+  pub room : (n : ℕ) → HasSpares n old → HasSpares n new
 
 -- a chunk, and a place among its rows or behind them
 abbrev pub IsPlace : List (List Entry) → ℕ × ℕ → Type 0

@@ -1,9 +1,9 @@
 -- Chunks that are filled one after the other, by rows in the order of their keys.
 use Rattle.std.specs.Prelude.{◌≡◌, ℕ, suc, ◌+◌, ◌-◌, ◌*◌, ◌≤◌, ◌%◌, ◌^◌, T, false, Option, Some, None, List, [], ◌∷◌, ◌++◌, length}
-use Rattle.std.specs.List.{AllByRecursion}
 use Rattle.std.specs.Ordering.{is_lt}
 use Rattle.std.specs.FinMap as map
 use Rattle.std.specs.Vec.{vec_len, vec_capacity}
+use Rattle.ordered_lists.specs.Lists.{Ascend}
 use Rattle.byte_maps.specs.ByteMap.{byte_order}
 use Rattle.meta_rows.specs.Rows.{key_of}
 use Rattle.meta_rows.specs.Table.{AllBelow, list_size}
@@ -14,8 +14,7 @@ use Rattle.meta_rows.specs.declared.filling.Filling.{Filling}
 
 -- each operation's key is at least those of the operations before it
 abbrev pub Rises : List RowOp → Type 0
-Rises [] = Unit {0}
-Rises (op ∷ ops) = AllByRecursion (λ later. is_lt (byte_order (key_of later) (key_of op)) ≡ false) ops × Rises ops
+Rises ops = Ascend (λ op later. is_lt (byte_order (key_of later) (key_of op)) ≡ false) ops
 
 -- the row that was held back, if there is one
 abbrev pub held_rows : Option Entry → List Entry
@@ -63,9 +62,9 @@ pub record IsFilling (f : Filling) : Type 0 where
   pub size : f.size ≡ list_size (joined f.all.list.items) % 2 ^ 64
 
 -- the row that was held back has this key; or no greater one
-abbrev pub Holds : List ℕ → Option Entry → Type 0
-Holds key None = ⊥
-Holds key (Some row) = row.0 ≡ key
+abbrev pub HoldsKey : List ℕ → Option Entry → Type 0
+HoldsKey key None = ⊥
+HoldsKey key (Some row) = row.0 ≡ key
 
 abbrev pub NotBelow : List ℕ → Option Entry → Type 0
 NotBelow key None = Unit {0}

@@ -12,7 +12,7 @@ abbrev pub BeginsWithNo : {X : Type 0} → (X → Type 0) → (X → List ℕ) �
 BeginsWithNo {X} Fitting spelling bytes = (x : X) (rest : List ℕ) → Fitting x → bytes ≢ spelling x ++ rest
 
 -- one that fits was read from the front
-pub record Reads {X : Type 0} (Fitting : X → Type 0) (spelling : X → List ℕ) (old new : List ℕ) (x : X) : Type 0 where
+pub record ReadsFront {X : Type 0} (Fitting : X → Type 0) (spelling : X → List ℕ) (old new : List ℕ) (x : X) : Type 0 where
   pub fits : Fitting x
   pub spelled : old ≡ spelling x ++ new
 

@@ -1,5 +1,5 @@
 //! A few rows in the order of their keys: a part of the table.
-ghost use Rattle.std.specs.Prelude.{◌≡◌, ◌+◌, ◌%◌, ◌^◌, ◌<◌, ◌≤◌, [], ◌++◌, ◌∷◌, length, get_or, reverse, Some, None, T, false, IsTrue, IfOk, option_copied};
+ghost use Rattle.std.specs.Prelude.{◌≡◌, ◌+◌, ◌%◌, ◌^◌, ◌<◌, ◌≤◌, [], ◌++◌, ◌∷◌, length, get_or, reverse, Some, None, T, false, IsTrue, IfOk, IfSome, option_copied};
 ghost use Rattle.std.specs.FinMap as map;
 ghost use Rattle.std.specs.FinMap.{find};
 ghost use Rattle.std.specs.Vec.{vec_len, vec_capacity};
@@ -8,11 +8,11 @@ ghost use Rattle.byte_maps.specs.ByteMap.{byte_order};
 ghost use Rattle.meta_rows.specs.Rows.{key_of};
 ghost use Rattle.meta_rows.specs.Table.{entries_after, value_left, left_at, come_at, GrowsBy, StartsAt};
 ghost use Rattle.std.specs.declared.cmp.Ordering.TheVariants.{Less, Equal};
-ghost use Rattle.meta_rows.specs.Chunks.{first_order, IsPastLast, IsLastKey};
+ghost use Rattle.meta_rows.specs.Chunks.{Entry, first_order, IsPastLast, IsLastKey, IsKeyPlace};
 
 use crate::row_change::left_by;
 use crate::row_op::RowOp;
-use byte_maps::{Bytes, Duplicate};
+use byte_maps::{Bytes, Duplicate, byte_order};
 use std::alloc::{AllocError, Global};
 use std::cmp::Ordering;
 use std::marker::Model;
@@ -46,7 +46,7 @@ fn place_of(entries: &[(Bytes, Bytes)], key: &[u8]) -> Result<usize, usize>
     ensures bound { IsSearchInRange result (length entries.now) }
     ensures position { IsBinarySearchResult (λ e. byte_order e.0 key.now) entries.now result }
 {
-    entries.binary_search_by(|entry| entry.0.as_slice().cmp(key))
+    entries.binary_search_by(|entry| byte_order(entry.0.as_slice(), key))
 }
 
 // How the last key compares with this one, or as one above it where there is none.
@@ -55,20 +55,59 @@ fn last_order(entries: &[(Bytes, Bytes)], key: &[u8]) -> Ordering
     ensures equal { result ≡ Equal → IsLastKey key.now entries.now }
 {
     match entries.last() {
-        Some(last) => last.0.as_slice().cmp(key),
+        Some(last) => byte_order(last.0.as_slice(), key),
         None => Ordering::Greater,
     }
 }
 
 // The same place as `place_of` finds, by one comparison where the key is the last one or comes behind all others.
-fn place_for(entries: &[(Bytes, Bytes)], key: &[u8]) -> Result<usize, usize>
-    ensures bound { IsSearchInRange result (length entries.now) }
-    ensures position { IsBinarySearchResult (λ e. byte_order e.0 key.now) entries.now result }
+pub fn place_for(entries: &[(Bytes, Bytes)], key: &[u8]) -> Result<usize, usize>
+    ensures { IsKeyPlace key.now entries.now result }
 {
     match last_order(entries, key) {
         Ordering::Less => Err(entries.len()),
         Ordering::Equal => Ok(entries.len() - 1),
         Ordering::Greater => place_of(entries, key),
+    }
+}
+
+// The place of a key, behind a row whose key is below it, where that is the next one or before the next one.
+fn place_behind(
+    entries: &[(Bytes, Bytes)],
+    before: usize,
+    key: &[u8],
+) -> Option<Result<usize, usize>>
+    requires before { before < length entries.now }
+    requires below { (d : Entry) → byte_order (get_or entries.now before d).0 key.now ≡ Less }
+    ensures { IfSome result (λ place. IsKeyPlace key.now entries.now place) }
+{
+    let next = before + 1;
+    if next == entries.len() {
+        return Some(Err(next));
+    }
+    match byte_order(entries[next].0.as_slice(), key) {
+        Ordering::Less => None,
+        Ordering::Equal => Some(Ok(next)),
+        Ordering::Greater => Some(Err(next)),
+    }
+}
+
+/// The place of a key, where that is next to this place: two comparisons tell.
+pub fn place_near(
+    entries: &[(Bytes, Bytes)],
+    near: usize,
+    key: &[u8],
+) -> Option<Result<usize, usize>>
+    ensures { IfSome result (λ place. IsKeyPlace key.now entries.now place) }
+{
+    if near == 0 || entries.len() < near {
+        return None;
+    }
+    let before = near - 1;
+    match byte_order(entries[before].0.as_slice(), key) {
+        Ordering::Less => place_behind(entries, before, key),
+        Ordering::Equal => Some(Ok(before)),
+        Ordering::Greater => None,
     }
 }
 
@@ -216,20 +255,12 @@ impl Chunk {
         MOST <= self.rows.as_slice().len()
     }
 
-    /// How many rows stand before a key.
-    pub fn place_of(&self, key: &[u8]) -> usize {
-        match place_for(&self.rows, key) {
-            Ok(at) => at,
-            Err(at) => at,
-        }
-    }
-
     /// How its first key compares with this one.
     pub fn first_order(&self, key: &[u8]) -> Ordering
         ensures { result ≡ first_order key.now self.now }
     {
         match self.rows.as_slice().split_first() {
-            Some((row, _)) => row.0.as_slice().cmp(key),
+            Some((row, _)) => byte_order(row.0.as_slice(), key),
             None => Ordering::Less,
         }
     }
@@ -245,14 +276,15 @@ impl Chunk {
         }
     }
 
-    /// The rows after an operation, and by how many bytes they grew, in 64 bits.
-    pub fn change(&mut self, op: RowOp) -> u64
+    /// The rows after an operation, and by how many bytes they grew, in 64 bits. The place of its key is given.
+    pub fn change(&mut self, op: RowOp, place: Result<usize, usize>) -> u64
         requires order { T (map.is_sorted byte_order self.old) }
         requires room { length self.old < 128 }
+        requires place { IsKeyPlace (key_of op) self.old place }
         ensures rows { self.new ≡ entries_after self.old op }
         ensures grows { GrowsBy result self.old self.new }
     {
-        match place_for(&self.rows, op.key()) {
+        match place {
             Ok(at) => change_there(&mut self.rows, at, op),
             Err(at) => come_in(&mut self.rows, at, op),
         }

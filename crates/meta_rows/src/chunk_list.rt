@@ -7,11 +7,15 @@
 //! makes those, and the promised number is a field, so that a failed `reserve` leaves it. A later `reserve` sets the number anew; `apply`
 //! gives spare chunks back that it doesn't need, but for 32.
 //!
+//! An operation looks for its key first beside the row of the one before: two comparisons tell whether it is that row, the next one or
+//! between both, as it is where a transaction's operations come in the order of their keys. Where it isn't, the chunk of the one before is
+//! asked, and then all are bisected. What is remembered of the one before is no part of what the chunks mean, and may be any numbers.
+//!
 //! A chunk is split where the key comes that makes it too full, or as near to there as parts of 32 to 96 rows allow: rows that come in
 //! the order of their keys in one place move at most 32 others from then on, and in several places by turns (collections that are written
 //! beside each other) soon have chunks of their own. No clause says so: which rows there are is all that one sees. A chunk that loses a
 //! row is joined with a neighbour where they have 64 rows together or fewer.
-ghost use Rattle.std.specs.Prelude.{◌≡◌, ◌+◌, ◌-◌, ◌<◌, ◌≤◌, ℕ, suc, List, [], length, take, get_or, T, false, OnOk, IsTrue, option_copied};
+ghost use Rattle.std.specs.Prelude.{◌≡◌, ◌+◌, ◌-◌, ◌<◌, ◌≤◌, ℕ, suc, List, [], length, take, get_or, T, false, OnOk, IsTrue, IfSome, option_copied, ◌⊎◌};
 ghost use Rattle.std.specs.FinMap as map;
 ghost use Rattle.std.specs.FinMap.{find};
 ghost use Rattle.std.specs.Vec.{vec_len, vec_capacity};
@@ -19,9 +23,9 @@ ghost use Rattle.std.specs.List.Sorted.{IsSearchInRange, IsBinarySearchResult};
 ghost use Rattle.byte_maps.specs.ByteMap.{byte_order};
 ghost use Rattle.meta_rows.specs.Table.{entries_after, GrowsBy};
 ghost use Rattle.std.specs.declared.cmp.Ordering.TheVariants.{Greater};
-ghost use Rattle.meta_rows.specs.Chunks.{joined, first_order, NoneEmpty, BelongsIn, IsChunked, HasRoom, IsOpen, IsSplit, IsRearranged};
+ghost use Rattle.meta_rows.specs.Chunks.{joined, first_order, NoneEmpty, BelongsIn, IsChunked, HasSpares, IsMadeReady, IsKeyPlace, IsSplit, IsRearranged};
 
-use crate::chunk::Chunk;
+use crate::chunk::{Chunk, place_for, place_near};
 use crate::row_op::RowOp;
 use byte_maps::Bytes;
 use std::alloc::{AllocError, Global};
@@ -34,8 +38,8 @@ pub struct ChunkList {
     pub list: Vec<Chunk>,
     /// Those that hold none.
     pub spare: Vec<Chunk>,
-    /// The chunk of the operation before, or any number: the next one is looked for there first.
-    pub near: usize,
+    /// The chunk of the operation before and the place behind its row, or any numbers: the next one is looked for there first.
+    pub near: (usize, usize),
 }
 
 /// The most rows that either part of a split chunk has.
@@ -80,6 +84,17 @@ fn begins_above(chunks: &[Chunk], at: usize, key: &[u8]) -> bool
     }
 }
 
+// Whether the chunk behind the one at a place, if there is one, begins with a key above this one.
+fn ends_above(chunks: &[Chunk], at: usize, key: &[u8]) -> bool
+    requires { at < length chunks.now }
+    ensures { IsTrue result → (at + 1 ≡ length chunks.now) ⊎ (first_order key.now (get_or chunks.now (at + 1) []) ≡ Greater) }
+{
+    if at + 1 == chunks.len() {
+        return true;
+    }
+    begins_above(chunks, at + 1, key)
+}
+
 // Whether a key belongs into the chunk at a place.
 fn is_chunk_of(chunks: &[Chunk], at: usize, key: &[u8]) -> bool
     requires none_empty { NoneEmpty chunks.now }
@@ -92,10 +107,7 @@ fn is_chunk_of(chunks: &[Chunk], at: usize, key: &[u8]) -> bool
     if 0 < at && begins_above(chunks, at, key) {
         return false;
     }
-    if at + 1 == chunks.len() {
-        return true;
-    }
-    begins_above(chunks, at + 1, key)
+    ends_above(chunks, at, key)
 }
 
 // The chunk that a key belongs into, where it may be the one at a place: two comparisons tell.
@@ -112,6 +124,80 @@ fn chunk_near(chunks: &[Chunk], at: usize, key: &[u8]) -> usize
     }
 }
 
+// Whether a key belongs into the chunk at a place, in which it has this place.
+fn is_place_of(chunks: &[Chunk], at: usize, place: Result<usize, usize>, key: &[u8]) -> bool
+    requires none_empty { NoneEmpty chunks.now }
+    requires order { T (map.is_sorted byte_order (joined chunks.now)) }
+    requires within { at < length chunks.now }
+    requires place { IsKeyPlace key.now (get_or chunks.now at []) place }
+    ensures { IsTrue result → BelongsIn key.now chunks.now at }
+{
+    match place {
+        Ok(_) => true,
+        Err(before) => {
+            if before == 0 {
+                return false;
+            }
+            if before < chunks[at].len() {
+                return true;
+            }
+            ends_above(chunks, at, key)
+        }
+    }
+}
+
+// The place of a key in a chunk, where that is next to a place in it and the key belongs there: two comparisons tell.
+fn place_beside(chunks: &[Chunk], near: (usize, usize), key: &[u8]) -> Option<Result<usize, usize>>
+    requires none_empty { NoneEmpty chunks.now }
+    requires order { T (map.is_sorted byte_order (joined chunks.now)) }
+    ensures belongs { IfSome result (λ _. BelongsIn key.now chunks.now near.0) }
+    ensures place { IfSome result (λ place. IsKeyPlace key.now (get_or chunks.now near.0 []) place) }
+{
+    if chunks.len() <= near.0 {
+        return None;
+    }
+    let place = place_near(chunks[near.0].rows(), near.1, key)?;
+    if is_place_of(chunks, near.0, place, key) {
+        Some(place)
+    } else {
+        None
+    }
+}
+
+// The chunk that a key belongs into and its place there. They are looked for next to a place first.
+fn place_in(chunks: &[Chunk], near: (usize, usize), key: &[u8]) -> (usize, Result<usize, usize>)
+    requires some { 0 < length chunks.now }
+    requires none_empty { NoneEmpty chunks.now }
+    requires order { T (map.is_sorted byte_order (joined chunks.now)) }
+    ensures belongs { BelongsIn key.now chunks.now result.0 }
+    ensures place { IsKeyPlace key.now (get_or chunks.now result.0 []) result.1 }
+{
+    if let Some(place) = place_beside(chunks, near, key) {
+        return (near.0, place);
+    }
+    let at = chunk_near(chunks, near.0, key);
+    (at, place_for(chunks[at].rows(), key))
+}
+
+// How many rows the lower part of a full chunk keeps that is split for a key with this place: those before the key, as far as neither
+// part has too many. So rows that come in the order of their keys in one place move at most 32 others from then on.
+fn cut_of(place: Result<usize, usize>) -> usize
+    ensures { (32 ≤ result) × (result ≤ 96) }
+{
+    match place {
+        Ok(at) => at.clamp(FEWEST, MOST_OF_A_PART),
+        Err(at) => at.clamp(FEWEST, MOST_OF_A_PART),
+    }
+}
+
+// The place behind the row of an operation.
+fn behind(place: Result<usize, usize>) -> usize {
+    match place {
+        Ok(at) => at.saturating_add(1),
+        Err(at) => at.saturating_add(1),
+    }
+}
+
 impl ChunkList {
     /// The value of a row, lent.
     pub fn get(&self, key: &[u8]) -> Option<&Bytes>
@@ -123,22 +209,6 @@ impl ChunkList {
             return None;
         }
         chunks[chunk_of(chunks, key)].get(key)
-    }
-
-    // How many rows the lower part of a chunk keeps that is split for a key: those before the key, as far as neither part has too many. So
-    // rows that come in the order of their keys in one place move at most 32 others from then on.
-    fn cut_of(&self, at: usize, key: &[u8]) -> usize
-        requires { at < vec_len self.now.list }
-        ensures { (32 ≤ result) × (result ≤ 96) }
-    {
-        let before = self.list[at].place_of(key);
-        if before < FEWEST {
-            FEWEST
-        } else if MOST_OF_A_PART < before {
-            MOST_OF_A_PART
-        } else {
-            before
-        }
     }
 
     // Splits a full chunk, by a spare one.
@@ -168,7 +238,8 @@ impl ChunkList {
         requires chunked { IsChunked self.old }
         requires none { self.old.list.items ≡ [] }
         requires room { 0 < vec_len self.old.spare }
-        ensures { (key : List ℕ) → IsOpen key self.old self.new 0 }
+        ensures opened { (key : List ℕ) → IsMadeReady key self.old self.new 0 }
+        ensures empty { get_or self.new.list.items 0 [] ≡ [] }
     {
         match self.spare.pop() {
             Some(chunk) => self.list.push_reserved(chunk),
@@ -176,41 +247,53 @@ impl ChunkList {
         }
     }
 
-    // Makes the chunk of a key ready for one row more, by a spare chunk if it must.
-    fn open(&mut self, key: &[u8]) -> usize
+    // Splits the full chunk of a key, which has this place in it, by a spare one. The part that it belongs into has room for one row more.
+    fn open_part(&mut self, at: usize, place: Result<usize, usize>, key: &[u8]) -> usize
         requires chunked { IsChunked self.old }
-        requires room { HasRoom 1 self.old }
-        ensures { IsOpen key.now self.old self.new result }
+        requires belongs { BelongsIn key.now self.old.list.items at }
+        requires full { 128 ≤ length (get_or self.old.list.items at []) }
+        requires spare { 0 < vec_len self.old.spare }
+        ensures { IsMadeReady key.now self.old self.new result }
     {
-        if self.list.as_slice().is_empty() {
-            self.begin();
-            return 0;
-        }
-        let at = chunk_near(self.list.as_slice(), self.near, key);
-        if !self.list[at].is_full() {
-            return at;
-        }
-        let from = self.cut_of(at, key);
-        self.split(at, from);
+        self.split(at, cut_of(place));
         match self.list[at + 1].first_order(key) {
             Ordering::Greater => at,
             _ => at + 1,
         }
     }
 
+    // Makes the chunk of a key ready for one row more, by a spare chunk if it must. The chunk, and the place of the key in it.
+    fn open(&mut self, key: &[u8]) -> (usize, Result<usize, usize>)
+        requires chunked { IsChunked self.old }
+        requires room { HasSpares 1 self.old }
+        ensures opened { IsMadeReady key.now self.old self.new result.0 }
+        ensures place { IsKeyPlace key.now (get_or self.new.list.items result.0 []) result.1 }
+    {
+        if self.list.as_slice().is_empty() {
+            self.begin();
+            return (0, Err(0));
+        }
+        let (at, place) = place_in(self.list.as_slice(), self.near, key);
+        if !self.list[at].is_full() {
+            return (at, place);
+        }
+        let part = self.open_part(at, place, key);
+        (part, place_for(self.list[part].rows(), key))
+    }
+
     // The rows after an operation, by how many bytes they grew, in 64 bits, and the chunk that has fewer rows than before, if one has.
     fn change(&mut self, op: RowOp) -> (u64, Option<usize>)
         requires chunked { IsChunked self.old }
-        requires room { HasRoom 1 self.old }
+        requires room { HasSpares 1 self.old }
         ensures rows { joined self.new.list.items ≡ entries_after (joined self.old.list.items) op }
         ensures chunked { IsChunked self.new }
-        ensures room { (n : ℕ) → HasRoom (suc n) self.old → HasRoom n self.new }
+        ensures room { (n : ℕ) → HasSpares (suc n) self.old → HasSpares n self.new }
         ensures grows { GrowsBy result.0 (joined self.old.list.items) (joined self.new.list.items) }
     {
-        let at = self.open(op.key());
-        self.near = at;
+        let (at, place) = self.open(op.key());
+        self.near = (at, behind(place));
         let had = self.len_at(at);
-        let more = self.list[at].change(op);
+        let more = self.list[at].change(op, place);
         if self.list[at].is_empty() {
             let chunk = self.list.remove(at);
             self.spare.push_reserved(chunk);
@@ -271,10 +354,10 @@ impl ChunkList {
     /// both have 64 rows at most, so that any two neighbours have more.
     pub fn apply_one(&mut self, op: RowOp) -> u64
         requires chunked { IsChunked self.old }
-        requires room { HasRoom 1 self.old }
+        requires room { HasSpares 1 self.old }
         ensures rows { joined self.new.list.items ≡ entries_after (joined self.old.list.items) op }
         ensures chunked { IsChunked self.new }
-        ensures room { (n : ℕ) → HasRoom (suc n) self.old → HasRoom n self.new }
+        ensures room { (n : ℕ) → HasSpares (suc n) self.old → HasSpares n self.new }
         ensures grows { GrowsBy result (joined self.old.list.items) (joined self.new.list.items) }
     {
         let (more, fewer) = self.change(op);

@@ -8,13 +8,13 @@ ghost use Rattle.byte_maps.specs.ByteMap.{byte_order};
 ghost use Rattle.meta_rows.specs.Rows.{key_of, rows_after};
 ghost use Rattle.meta_rows.specs.Table.{AllBelow, entries_after, value_left, list_size};
 ghost use Rattle.meta_rows.specs.Chunks.{joined, IsChunked};
-ghost use Rattle.meta_rows.specs.Filling.{Rises, held_rows, held_value, row_left, rows_of, gap, HasSpace, IsShaped, IsAppended, IsFilling, Holds, NotBelow, Awaits};
+ghost use Rattle.meta_rows.specs.Filling.{Rises, held_rows, held_value, row_left, rows_of, gap, HasSpace, IsShaped, IsAppended, IsFilling, HoldsKey, NotBelow, Awaits};
 
 use crate::chunk::{Chunk, row_size};
 use crate::chunk_list::ChunkList;
 use crate::row_change::left_by;
 use crate::row_op::RowOp;
-use byte_maps::Bytes;
+use byte_maps::{Bytes, byte_order};
 use std::alloc::{AllocError, Global};
 use std::cmp::Ordering;
 
@@ -115,7 +115,7 @@ impl Filling {
         let mut all = ChunkList {
             list: Vec::new(alloc),
             spare: Vec::new(alloc),
-            near: 0,
+            near: (0, 0),
         };
         all.reserve(alloc, rows / FILLED + 1)?;
         Ok(Filling {
@@ -127,11 +127,11 @@ impl Filling {
 
     // Whether the row that is held back has this key.
     fn holds(&self, key: &[u8]) -> bool
-        ensures yes { IsTrue result → Holds key.now self.now.held }
+        ensures yes { IsTrue result → HoldsKey key.now self.now.held }
         ensures other { result ≡ false → NotBelow key.now self.now.held → AllBelow key.now (held_rows self.now.held) }
     {
         match &self.held {
-            Some(row) => matches!(row.0.as_slice().cmp(key), Ordering::Equal),
+            Some(row) => matches!(byte_order(row.0.as_slice(), key), Ordering::Equal),
             None => false,
         }
     }

@@ -10,7 +10,7 @@ ghost use Rattle.meta_rows.specs.Merging.{TakesBelow, ops_left, IsMerging, Goes}
 use crate::chunk::Chunk;
 use crate::filling::Filling;
 use crate::row_op::RowOp;
-use byte_maps::Bytes;
+use byte_maps::{Bytes, byte_order};
 use std::cmp::Ordering;
 
 /// Rows that were merged, and the operations that are left.
@@ -28,7 +28,7 @@ fn next_below(ops: &mut Vec<RowOp>, key: &[u8]) -> Option<RowOp>
     let Some(op) = ops.pop() else {
         return None;
     };
-    if matches!(op.key().cmp(key), Ordering::Less) {
+    if matches!(byte_order(op.key(), key), Ordering::Less) {
         return Some(op);
     }
     ops.push_reserved(op);

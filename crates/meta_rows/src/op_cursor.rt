@@ -43,7 +43,7 @@ impl OpCursor {
         Ok(part.bytes)
     }
 
-    /// The place so many bytes behind this one, or behind the last operation.
+    /// The place so many bytes behind this one. It may lie behind all operations, and then says how many bytes behind them.
     pub fn behind(self, ops: &[RowOp], count: usize) -> OpCursor
         requires fit { AllFit ops.now }
         requires within { self.ops ≤ length ops.now }

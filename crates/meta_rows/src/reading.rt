@@ -2,7 +2,7 @@
 ghost use Rattle.std.specs.Prelude.{List, IfOk, MatchOption};
 ghost use Rattle.meta_rows.specs.declared.row_op.RowOp.{RowOp};
 ghost use Rattle.meta_rows.specs.Spelling.{key_bytes, value_bytes, op_bytes, IsKey, FitsRowOp};
-ghost use Rattle.meta_rows.specs.Reading.{IsValue, BeginsWithNo, Reads, SpellOps};
+ghost use Rattle.meta_rows.specs.Reading.{IsValue, BeginsWithNo, ReadsFront, SpellOps};
 
 use crate::row_op::RowOp;
 use crate::writing::{DROP, FLIP, SET};
@@ -14,7 +14,7 @@ use unit_fields::Fields;
 const KEY_LIMIT: u16 = 1024;
 
 fn read_key<'a>(fields: &mut Fields<'a>) -> Option<&'a [u8]>
-    ensures { MatchOption result (BeginsWithNo IsKey key_bytes fields.old) (λ key. Reads IsKey key_bytes fields.old fields.new key.now) }
+    ensures { MatchOption result (BeginsWithNo IsKey key_bytes fields.old) (λ key. ReadsFront IsKey key_bytes fields.old fields.new key.now) }
 {
     let size = fields.u16()?;
     if size > 0 && size <= KEY_LIMIT {
@@ -25,14 +25,14 @@ fn read_key<'a>(fields: &mut Fields<'a>) -> Option<&'a [u8]>
 }
 
 fn read_value<'a>(fields: &mut Fields<'a>) -> Option<&'a [u8]>
-    ensures { MatchOption result (BeginsWithNo IsValue value_bytes fields.old) (λ value. Reads IsValue value_bytes fields.old fields.new value.now) }
+    ensures { MatchOption result (BeginsWithNo IsValue value_bytes fields.old) (λ value. ReadsFront IsValue value_bytes fields.old fields.new value.now) }
 {
     let size = fields.u32()?;
     fields.bytes(size as usize)
 }
 
 fn read_op(alloc: Global, fields: &mut Fields) -> Result<Option<RowOp>, AllocError>
-    ensures { IfOk result (λ found. MatchOption found (BeginsWithNo FitsRowOp op_bytes fields.old) (Reads FitsRowOp op_bytes fields.old fields.new)) }
+    ensures { IfOk result (λ found. MatchOption found (BeginsWithNo FitsRowOp op_bytes fields.old) (ReadsFront FitsRowOp op_bytes fields.old fields.new)) }
 {
     let Some(code) = fields.u8() else {
         return Ok(None);

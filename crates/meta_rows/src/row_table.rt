@@ -2,7 +2,8 @@
 //!
 //! The rows of a `RowTable` lie in chunks of 1 to 128 rows, in one list of chunks: a row that comes or goes moves at most 127 rows and,
 //! where a chunk is split or goes, the chunks behind it, of which there is one for 64 rows or so. A look-up bisects the chunks by their
-//! first keys, then one chunk. `apply` goes through a batch one by one, and looks first into the chunk of the operation before.
+//! first keys, then one chunk. `apply` goes through a batch one by one, and looks first beside the row of the operation before: where the
+//! keys ascend and no row lies between them, two comparisons tell the place. Keys are compared by numbers of eight bytes.
 //! `apply_all`, for many operations at once, brings them into the order of their keys and, where they are an eighth of the rows or more,
 //! merges them with the rows, moved, into new chunks of 96. A mount calls it once for many records: their operations wait until they take
 //! 8 MiB of memory or about that, so that few merges go over the rows that are there, and what waits takes a bounded part of the memory.
@@ -26,7 +27,7 @@ use crate::filling::Filling;
 use crate::merging::Merging;
 use crate::row_op::RowOp;
 use crate::row_range::RowRange;
-use byte_maps::Bytes;
+use byte_maps::{Bytes, byte_order};
 use std::alloc::{AllocError, Global};
 use std::marker::Model;
 use std::mem::replace;
@@ -34,9 +35,10 @@ use std::mem::replace;
 /// The rows of the store in memory, seen as the finite map and how many more operations it takes without memory.
 ///
 /// They lie in chunks of 1 to 128 rows in the order of their keys. A look-up bisects the chunks by their first keys, and then one
-/// chunk; an operation looks first into the chunk of the one before. A row that comes or goes moves those behind it in its chunk
-/// alone, 64 bytes each. A chunk of 128 rows is split before one more comes, into a spare chunk of 8192 bytes: where the key comes, but
-/// neither part has more than 96 rows. So rows that come in the order of their keys in one place move at most 32 others from then on.
+/// chunk; an operation looks first beside the row of the one before, and then into its chunk. A row that comes or goes moves those
+/// behind it in its chunk alone, 64 bytes each. A chunk of 128 rows is split before one more comes, into a spare chunk of 8192 bytes:
+/// where the key comes, but neither part has more than 96 rows. So rows that come in the order of their keys in one place move at most
+/// 32 others from then on.
 /// A chunk that loses a row is joined with a neighbour where they have 64 rows together or fewer, and is spare again. Spare
 /// chunks that no operation for which there is room needs are given back, but for 32. In Ceph it is RocksDB that holds the rows.
 #[derive(Debug, Drop)]
@@ -53,7 +55,7 @@ impl Model for RowTable {
     ghost use Rattle.std.specs.FinMap as map;
     ghost use Rattle.byte_maps.specs.ByteMap.{byte_order};
     ghost use Rattle.meta_rows.specs.Table.{RowsWithRoom, rows_with_room_code, list_size};
-    ghost use Rattle.meta_rows.specs.Chunks.{joined, IsChunked, HasRoom};
+    ghost use Rattle.meta_rows.specs.Chunks.{joined, IsChunked, HasSpares};
 
     ghost Value = { RowsWithRoom };
 
@@ -61,7 +63,7 @@ impl Model for RowTable {
 
     ghost view = { λ a. record { rows = map.from_sorted {R = byte_order} (joined a.all.list.items); room = a.room } };
 
-    ghost invariant = { λ a. IsChunked a.all × HasRoom a.room a.all × (a.size ≡ list_size (joined a.all.list.items) % 2 ^ 64) };
+    ghost invariant = { λ a. IsChunked a.all × HasSpares a.room a.all × (a.size ≡ list_size (joined a.all.list.items) % 2 ^ 64) };
 }
 
 // Where the keys begin that are at least this one: a chunk, and the place of a row in it.
@@ -100,7 +102,8 @@ fn ends_behind(rows: &[(Bytes, Bytes)], at: usize, key: &[u8]) -> bool
     if rows.len().saturating_sub(at) < 2 {
         return false;
     }
-    rows[at].0.as_slice().cmp(key).is_lt() && !rows[at + 1].0.as_slice().cmp(key).is_lt()
+    byte_order(rows[at].0.as_slice(), key).is_lt()
+        && !byte_order(rows[at + 1].0.as_slice(), key).is_lt()
 }
 
 // Where the keys end that are below this one, for rows from a place on. Where the row at that place is the last one below it, and not
@@ -167,7 +170,7 @@ fn by_key(ops: Vec<RowOp>) -> Result<Vec<RowOp>, AllocError>
     ensures rises { IfOk result (λ sorted. Rises sorted.items) }
 {
     let mut sorted = ops;
-    sorted.sort_by(|one, other| one.key().cmp(other.key()))?;
+    sorted.sort_by(|one, other| byte_order(one.key(), other.key()))?;
     Ok(sorted)
 }
 
@@ -213,7 +216,7 @@ impl RowTable {
             all: ChunkList {
                 list: Vec::new(alloc),
                 spare: Vec::new(alloc),
-                near: 0,
+                near: (0, 0),
             },
             room: 0,
             size: 0,
@@ -231,7 +234,7 @@ impl RowTable {
             all: ChunkList {
                 list,
                 spare,
-                near: 0,
+                near: (0, 0),
             },
             room: 0,
             size: self.size,

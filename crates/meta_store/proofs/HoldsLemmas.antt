@@ -10,8 +10,8 @@ use Rattle.meta_log.specs.Prelude.{Sealed, unit_count, sealed_units, piece_count
 use Rattle.meta_store.specs.declared.check.OpenCheck.{OpenCheck}
 use Rattle.meta_store.specs.declared.store.BegunRecord.{BegunRecord}
 use Rattle.meta_store.specs.declared.store.MetaStore.TheInside.{Inside}
-use Rattle.meta_store.specs.Store.{Begun, Checking, Meta, IsBegun, IsChecking, IsPieceLeft, IsPieceOut, check_pieces}
-use Rattle.meta_store.specs.Checks.{record_left, IsCheckLeft, IsCheckOut, IsLeftThen, switched}
+use Rattle.meta_store.specs.Store.{Begun, Checking, Meta, IsBegun, IsChecking, IsPieceLeft, IsPieceOut, checkpoint_pieces}
+use Rattle.meta_store.specs.Checks.{record_left, IsCheckLeft, IsCheckOut, IsLeftThen, switched_log}
 use Rattle.meta_store.specs.StoreInside.{begun_of, checking_of, meta_of, IsHeld, IsOpen, Holds}
 use Rattle.meta_store.proofs.CheckLemmas.{rows_sealable, record_count}
 
@@ -179,8 +179,8 @@ pub check_given : (a : Inside) (c : OpenCheck) (left : Option TableRecord) → H
 check_given a c left holds is some left_is =
     let checking = check_known a c holds is in
     let is_open = check_open a c holds is in
-    let below : c.given < length (check_pieces a.number a.rows.rows a.stale.items) = subst (λ (o : Option OpenCheck).
-    MatchOption (option_map checking_of o) ⊥ (λ x. x.given < length (check_pieces a.number a.rows.rows a.stale.items))
+    let below : c.given < length (checkpoint_pieces a.number a.rows.rows a.stale.items) = subst (λ (o : Option OpenCheck).
+    MatchOption (option_map checking_of o) ⊥ (λ x. x.given < length (checkpoint_pieces a.number a.rows.rows a.stale.items))
     ) is some in
     let left_of : left ≡ record_left a.number a.rows.rows (c.given + 1) = subst (λ (o : Option OpenCheck).
     IfSome (option_map checking_of o) (λ x. left ≡ record_left a.number a.rows.rows (x.given + 1))
@@ -232,7 +232,7 @@ seen_as a sup tail number begun stale = record {
 module _ (a : Inside) (c : OpenCheck) (sup : Super) (tail number : ℕ) (stale : Vec UnitRun Global) (holds : Holds a) (is : a.check ≡ Some c)
     (sup_is : sup ≡ next_super a.sup a.number) (tail_is : tail ≡ c.units) (stale_is : stale.items ≡ c.behind.items) where
   -- what is seen of them
-  pub switch_seen : number ≡ a.number + min tail 1 → meta_of (after_switch a sup tail number stale) ≡ switched (meta_of a)
+  pub switch_seen : number ≡ a.number + min tail 1 → meta_of (after_switch a sup tail number stale) ≡ switched_log (meta_of a)
   switch_seen number_is =
       let is_open = check_open a c holds is in
       let begun : Option Begun = option_map begun_of a.begun in

@@ -1,20 +1,21 @@
 -- The next piece of a checkpoint: where it lies, and what it holds.
-use Rattle.std.proofs.Common.{◌≡◌, ℕ, ◌+◌, ◌-◌, ◌*◌, ◌%◌, ◌<◌, ◌≤◌, Bool, true, false, nat_lt, List, length, Option, Some, ◌^◌, refl, sym, ap, subst, ◌∙◌, if◌then◌else◌, slice_get, arith}
+use Rattle.std.proofs.Common.{◌≡◌, ℕ, ◌+◌, ◌-◌, ◌*◌, ◌%◌, ◌<◌, ◌≤◌, Bool, true, false, nat_lt, List, [], ◌∷◌, length, Option, Some, ◌^◌, refl, sym, ap, subst, ◌∙◌, if◌then◌else◌, slice_get, append-nil, arith}
 use Rattle.std.proofs.lemmas.Bool.{lt-ltb, le-ltb, ltb-true, ltb-false}
 use Rattle.std.proofs.Math.Nat.{mul-le-mul_left}
 use Rattle.std.specs.Option.{option_map}
 use Rattle.byte_maps.specs.Units.{unit_at, zeros}
 use Rattle.byte_maps.proofs.UnitLemmas.{unit_at-units_from, unit_at-zeros, length-zeros}
+use Rattle.meta_rows.specs.declared.row_op.RowOp.{RowOp}
 use Rattle.meta_rows.specs.Prelude.{Rows, row_sets}
 use Rattle.meta_log.specs.declared.runs.UnitRun.{UnitRun}
-use Rattle.meta_log.specs.Prelude.{Sealed, record_units, unit_count, piece_count, piece_first, piece_units, piece_bytes, check_units, TableRecord, AreRunsFrom, other_unit, IsZeroRun}
+use Rattle.meta_log.specs.Prelude.{Sealed, record_units, records_units, target_unit, unit_count, piece_count, piece_first, piece_units, piece_bytes, units_of_records, one_record, check_records, check_units, TableRecord, AreRunsFrom, other_unit, IsZeroRun}
 use Rattle.meta_log.proofs.PieceLemmas.{lies}
 use Rattle.meta_log.proofs.SealLemmas.{length-piece_bytes}
 use Rattle.meta_log.proofs.RunLemmas.{record_piece, zero_piece}
 use Rattle.meta_store.specs.declared.check.OpenCheck.{OpenCheck}
 use Rattle.meta_store.specs.declared.store.MetaStore.TheInside.{Inside}
-use Rattle.meta_store.specs.Store.{check_pieces}
-use Rattle.meta_store.specs.Checks.{check_unit, record_left, left_bytes, IsNextCheck, LiesInOtherHalf}
+use Rattle.meta_store.specs.Store.{checkpoint_pieces}
+use Rattle.meta_store.specs.Checks.{record_left, left_bytes, IsNextCheck, LiesInOtherHalf}
 use Rattle.meta_store.specs.StoreInside.{checking_of, meta_of, Holds}
 use Rattle.meta_store.proofs.CheckLemmas.{is_left, none_left, same_pieces}
 use Rattle.meta_store.proofs.HoldsLemmas.{check_known, check_open}
@@ -25,11 +26,16 @@ pub record HoldsRun (number : ℕ) (rows : Rows) (half : ℕ) (r : UnitRun) (byt
   pub most : r.count ≤ 64
   pub within : r.first + r.count ≤ half
   pub size : length bytes ≡ 4096 * r.count
-  pub units : (j : ℕ) → j < r.count → unit_at j bytes ≡ check_unit number rows (r.first + j)
+  pub units : (j : ℕ) → j < r.count → unit_at j bytes ≡ target_unit (check_units number rows) number (check_records rows) (r.first + j)
 
 unit_by : (number : ℕ) (rows : Rows) (k : ℕ) (b : Bool) → nat_lt k (check_units number rows) ≡ b
-    → check_unit number rows k ≡ (if b then unit_at k (record_units number (row_sets rows)) else zeros 4096)
-unit_by number rows k b is = ap (λ (c : Bool). if c then unit_at k (record_units number (row_sets rows)) else zeros 4096) is
+    → target_unit (check_units number rows) number (check_records rows) k ≡ (if b then unit_at k (records_units number (check_records rows)) else zeros 4096)
+unit_by number rows k b is = ap (λ (c : Bool). if c then unit_at k (records_units number (check_records rows)) else zeros 4096) is
+
+one_spelled : (number : ℕ) (ops : List RowOp) → 0 < units_of_records number (one_record ops)
+    → record_units number ops ≡ records_units number (one_record ops)
+one_spelled number [] some = absurd (omega (arith, some))
+one_spelled number (op ∷ ops) some = sym (append-nil (record_units number (op ∷ ops)))
 
 -- a piece of the record
 record_holds : (number : ℕ) (rows : Rows) (half given : ℕ) → check_units number rows ≤ half → given < piece_count (check_units number rows)
@@ -52,6 +58,7 @@ record_holds number rows half given fits below =
           unit_at-units_from (piece_first (unit_count number (row_sets rows)) given) (piece_units (unit_count number (row_sets rows)) given) j
           (record_units number (row_sets rows)) (subst (λ n. j < piece_units n given) all in_run)
           ∙ ap (λ n. unit_at (piece_first n given + j) (record_units number (row_sets rows))) (sym all)
+          ∙ ap (unit_at (piece_first u given + j)) (one_spelled number (row_sets rows) (omega (arith, place.within, place.some)))
           ∙ sym (unit_by number rows (piece_first u given + j) true (lt-ltb (piece_first u given + j) u (omega (arith, place.within, in_run))));
     }
 
@@ -73,7 +80,7 @@ some_same x y is = cc
 
 module _ (number : ℕ) (rows : Rows) (stale : List UnitRun) (half given : ℕ) (r : UnitRun) (left : Option TableRecord) (bytes : List ℕ)
     (fits : check_units number rows ≤ half) (runs : AreRunsFrom 0 half stale) (left_is : left ≡ record_left number rows given)
-    (bytes_are : bytes ≡ left_bytes left r.count) (is : slice_get (check_pieces number rows stale) given ≡ Some r) where
+    (bytes_are : bytes ≡ left_bytes left r.count) (is : slice_get (checkpoint_pieces number rows stale) given ≡ Some r) where
   holds_by : (b : Bool) → nat_lt given (piece_count (check_units number rows)) ≡ b → HoldsRun number rows half r bytes
   holds_by true test =
       let u : ℕ = check_units number rows in
@@ -99,7 +106,7 @@ module _ (number : ℕ) (rows : Rows) (stale : List UnitRun) (half given : ℕ) 
 
 module _ (a : Inside) (c : OpenCheck) (r : UnitRun) (bytes : List ℕ) (holds : Holds a) (is : a.check ≡ Some c)
     (next : slice_get c.pieces.items c.given ≡ Some r) (bytes_are : bytes ≡ left_bytes c.left r.count) where
-  is_next : slice_get (check_pieces a.number a.rows.rows a.stale.items) c.given ≡ Some r
+  is_next : slice_get (checkpoint_pieces a.number a.rows.rows a.stale.items) c.given ≡ Some r
   is_next = subst (λ (l : List UnitRun). slice_get l c.given ≡ Some r) (check_open a c holds is).pieces next
 
   pub next_run : HoldsRun a.number a.rows.rows a.sup.half r bytes

@@ -2,14 +2,10 @@
 use Rattle.std.specs.Prelude.{◌≡◌, ℕ, ◌+◌, ◌*◌, ◌%◌, ◌<◌, ◌≤◌, nat_lt, List, length, slice_get, Option, Some, None, IfSome, MatchOption, if◌then◌else◌}
 use Rattle.std.specs.Option.{option_map}
 use Rattle.byte_maps.specs.Units.{unit_at, zeros}
-use Rattle.meta_rows.specs.Prelude.{Rows, row_sets}
+use Rattle.meta_rows.specs.Prelude.{Rows}
 use Rattle.meta_log.specs.declared.runs.UnitRun.{UnitRun}
-use Rattle.meta_log.specs.Prelude.{record_units, piece_count, piece_bytes, sealed_units, TableRecord, sealed_of, other_unit, data_unit, next_super, check_records, check_units, front_run}
-use Rattle.meta_store.specs.Store.{Meta, Checking, check_pieces}
-
--- what unit k of the other half is to hold: that of the record of the rows, or zeros behind it
-abbrev pub check_unit : ℕ → Rows → ℕ → List ℕ
-check_unit number rows k = if nat_lt k (check_units number rows) then unit_at k (record_units number (row_sets rows)) else zeros 4096
+use Rattle.meta_log.specs.Prelude.{piece_count, piece_bytes, sealed_units, TableRecord, sealed_of, other_unit, data_unit, next_super, check_records, check_units, target_unit, front_run}
+use Rattle.meta_store.specs.Store.{Meta, Checking, checkpoint_pieces}
 
 -- the record of the rows once so many pieces of a checkpoint were given; none where none of its pieces is left
 abbrev pub record_left : ℕ → Rows → ℕ → Option TableRecord
@@ -22,7 +18,7 @@ with_check m = record m { check = Some (record { given = 0; written = 0 }) }
 
 -- how many pieces the store's checkpoint has
 abbrev pub check_count : Meta → ℕ
-check_count m = length (check_pieces m.number m.rows m.stale)
+check_count m = length (checkpoint_pieces m.number m.rows m.stale)
 
 -- no checkpoint is open, or each piece was given
 abbrev pub IsCheckGiven : Meta → Type 0
@@ -45,10 +41,10 @@ pub record IsNextCheck (m : Meta) (unit : ℕ) (bytes : List ℕ) : Type 0 where
   pub now : Checking
   pub is_open : m.check ≡ Some now
   pub run : UnitRun
-  pub is_next : slice_get (check_pieces m.number m.rows m.stale) now.given ≡ Some run
+  pub is_next : slice_get (checkpoint_pieces m.number m.rows m.stale) now.given ≡ Some run
   pub unit_is : unit ≡ other_unit m.sup + run.first
   pub size : length bytes ≡ 4096 * run.count
-  pub bytes_are : (j : ℕ) → j < run.count → unit_at j bytes ≡ check_unit m.number m.rows (run.first + j)
+  pub bytes_are : (j : ℕ) → j < run.count → unit_at j bytes ≡ target_unit (check_units m.number m.rows) m.number (check_records m.rows) (run.first + j)
 
 -- the record of the rows as it is once the next piece is given
 abbrev pub IsLeftThen : Meta → Option TableRecord → Type 0
@@ -72,8 +68,8 @@ abbrev pub with_check_written : Meta → Meta
 with_check_written m = record m { check = option_map (λ (c : Checking). record c { written = c.written + 1 }) m.check }
 
 -- the halves have changed places: the log is the checkpoint's record, and what is stale is the records of the half that was left
-abbrev pub switched : Meta → Meta
-switched m = record m {
+abbrev pub switched_log : Meta → Meta
+switched_log m = record m {
   sup = next_super m.sup m.number;
   tail = check_units m.number m.rows;
   number = m.number + length (check_records m.rows);

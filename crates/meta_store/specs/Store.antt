@@ -1,8 +1,6 @@
 -- The rows and where the log stands, as one value.
 use Rattle.std.specs.Prelude.{◌≡◌, ℕ, ◌+◌, ◌-◌, ◌*◌, ◌%◌, ◌<◌, ◌≤◌, List, length, Option, Some, None, IfSome, OnSome, MatchOption}
 use Rattle.std.specs.Option.{option_map}
-use Rattle.std.specs.FinMap as map
-use Rattle.std.specs.Coded.{Coded, coded_ℕ, coded_list}
 use Rattle.meta_rows.specs.declared.row_op.RowOp.{RowOp}
 use Rattle.meta_rows.specs.Prelude.{Rows, rows_after, row_sets, RowsFit}
 use Rattle.meta_log.specs.declared.slot.Super.{Super}
@@ -33,9 +31,6 @@ pub record Meta : Type 0 where
   pub stale : List UnitRun
   pub check : Option Checking
 
-abbrev pub coded_rows : Coded Rows
-coded_rows = map.code (coded_list coded_ℕ) (coded_list coded_ℕ)
-
 -- how many pieces the record has that is being written
 abbrev pub piece_count_of : Meta → Begun → ℕ
 piece_count_of m b = piece_count (unit_count m.number b.ops)
@@ -48,15 +43,15 @@ pub record IsBegun (half tail number : ℕ) (b : Begun) : Type 0 where
   pub written_most : b.written ≤ b.given
 
 -- the pieces of a checkpoint of these rows under this number, where these runs of the other half are stale
-abbrev pub check_pieces : ℕ → Rows → List UnitRun → List UnitRun
-check_pieces number rows stale = check_runs (check_units number rows) stale
+abbrev pub checkpoint_pieces : ℕ → Rows → List UnitRun → List UnitRun
+checkpoint_pieces number rows stale = check_runs (check_units number rows) stale
 
 -- what is known of a checkpoint that is being written
 pub record IsChecking (sup : Super) (number : ℕ) (rows : Rows) (stale : List UnitRun) (c : Checking) : Type 0 where
   pub next_limits : IsSuper (next_super sup number)
   pub sealable : IsSealable number (row_sets rows)
   pub fits : check_units number rows ≤ sup.half
-  pub given_most : c.given ≤ length (check_pieces number rows stale)
+  pub given_most : c.given ≤ length (checkpoint_pieces number rows stale)
   pub written_most : c.written ≤ c.given
 
 -- What is known of every store. A record and a checkpoint aren't written at once.
@@ -91,8 +86,8 @@ abbrev pub with_begun : Meta → List RowOp → Meta
 with_begun m ops = record m { begun = Some (record { ops = ops; given = 0; written = 0 }) }
 
 -- nothing is begun, or each piece was given
-abbrev pub IsAllGiven : Meta → Type 0
-IsAllGiven m = MatchOption m.begun (Unit {0}) (λ b. b.given ≡ piece_count_of m b)
+abbrev pub IsRecordGiven : Meta → Type 0
+IsRecordGiven m = MatchOption m.begun (Unit {0}) (λ b. b.given ≡ piece_count_of m b)
 
 -- a record is begun, and not each piece was given
 abbrev pub IsPieceLeft : Meta → Type 0
@@ -132,10 +127,10 @@ abbrev pub with_written : Meta → Meta
 with_written m = record m { begun = option_map (λ (b : Begun). record b { written = b.written + 1 }) m.begun }
 
 -- the record's operations are committed
-abbrev pub committed : Meta → Begun → Meta
-committed m b = record m { rows = rows_after m.rows b.ops; tail = m.tail + unit_count m.number b.ops; number = m.number + 1; begun = None }
+abbrev pub with_committed : Meta → Begun → Meta
+with_committed m b = record m { rows = rows_after m.rows b.ops; tail = m.tail + unit_count m.number b.ops; number = m.number + 1; begun = None }
 
 -- the store once the record that was begun is stable
-abbrev pub after_flush : Meta → Option Begun → Meta
-after_flush m None = m
-after_flush m (Some b) = committed m b
+abbrev pub with_record_stable : Meta → Option Begun → Meta
+with_record_stable m None = m
+with_record_stable m (Some b) = with_committed m b

@@ -7,7 +7,7 @@ use Rattle.meta_log.specs.Prelude.{check_units, front_run}
 use Rattle.meta_store.specs.declared.check.OpenCheck.{OpenCheck}
 use Rattle.meta_store.specs.declared.store.BegunRecord.{BegunRecord}
 use Rattle.meta_store.specs.declared.store.MetaStore.TheInside.{Inside}
-use Rattle.meta_store.specs.Store.{Begun, Checking, Meta, IsMeta, check_pieces}
+use Rattle.meta_store.specs.Store.{Begun, Checking, Meta, IsMeta, checkpoint_pieces}
 use Rattle.meta_store.specs.Checks.{record_left}
 
 abbrev pub begun_of : BegunRecord → Begun
@@ -37,7 +37,7 @@ pub record IsHeld (number room : ℕ) (b : BegunRecord) : Type 0 where
 pub record IsOpen (number : ℕ) (rows : Rows) (tail : ℕ) (stale : List UnitRun) (c : OpenCheck) : Type 0 where
   pub left : c.left ≡ record_left number rows c.given
   pub units : c.units ≡ check_units number rows
-  pub pieces : c.pieces.items ≡ check_pieces number rows stale
+  pub pieces : c.pieces.items ≡ checkpoint_pieces number rows stale
   pub behind : c.behind.items ≡ front_run tail
 
 pub record Holds (a : Inside) : Type 0 where

@@ -6,7 +6,7 @@ ghost use Rattle.meta_log.specs.Prelude.{IsSealable, piece_count, sealed_units, 
 ghost use Rattle.meta_store.specs.Checks.{record_left, units_left, left_bytes, left_then};
 ghost use Rattle.meta_store.specs.StoreInside.{IsOpen};
 
-use meta_log::{HEAD_BYTES, RowsRecord, UnitRun, check_runs};
+use meta_log::{RowsRecord, UnitRun, check_runs, units_of_body};
 use meta_rows::RowTable;
 use std::alloc::{AllocError, Global};
 use unit_fields::UnitNo;
@@ -55,7 +55,7 @@ pub fn units_of_rows(rows: &RowTable) -> u32
     if rows.is_empty() {
         return 0;
     }
-    ((HEAD_BYTES + rows.size() as usize + (UNIT_BYTES - 1)) / UNIT_BYTES) as u32
+    units_of_body(rows.size() as usize) as u32
 }
 
 // How many units the record takes, if there is one.

@@ -5,8 +5,8 @@
 ghost use Rattle.std.specs.Prelude.{◌≡◌, ◌↔◌, ◌+◌, ◌-◌, ◌<◌, ◌≤◌, None, IsTrue, IfOk, IfErr, IfSome, OnOk, OnErr, OnSome, MatchOption};
 ghost use Rattle.meta_rows.specs.Sets.{RowsFit};
 ghost use Rattle.meta_log.specs.Prelude.{IsSuper, active_unit, sealed_units, check_units, AreRunsFrom};
-ghost use Rattle.meta_store.specs.Store.{IsMeta, found_meta, room_of, with_begun, with_given, with_written, after_flush};
-ghost use Rattle.meta_store.specs.Store.{IsAllGiven, IsPieceLeft, IsPieceOut, IsAllWritten, IsNextPiece, LiesBehindTail};
+ghost use Rattle.meta_store.specs.Store.{IsMeta, found_meta, room_of, with_begun, with_given, with_written, with_record_stable};
+ghost use Rattle.meta_store.specs.Store.{IsRecordGiven, IsPieceLeft, IsPieceOut, IsAllWritten, IsNextPiece, LiesBehindTail};
 
 mod checking;
 
@@ -43,7 +43,8 @@ pub struct MetaStore {
 
 impl Model for MetaStore {
     ghost use Rattle.std.specs.Coded.{codes};
-    ghost use Rattle.meta_store.specs.Store.{Meta, coded_rows};
+    ghost use Rattle.meta_log.specs.Prelude.{coded_rows};
+    ghost use Rattle.meta_store.specs.Store.{Meta};
 
     ghost Value = { Meta };
 
@@ -186,7 +187,7 @@ impl MetaStore {
     /// The next piece of the record that is being written, and the unit of the device from which on it goes; None where there is none.
     /// It counts as given only with the call of `note_given`, so that a submission that the device refused can be made again.
     pub fn next_piece(&self, alloc: Global) -> Result<Option<(UnitNo, Vec<u8>)>, AllocError>
-        ensures next { IfOk result (λ found. MatchOption found (IsAllGiven self.now) (λ piece. IsNextPiece self.now piece.0 piece.1.items)) }
+        ensures next { IfOk result (λ found. MatchOption found (IsRecordGiven self.now) (λ piece. IsNextPiece self.now piece.0 piece.1.items)) }
         ensures left { IfOk result (λ found. OnSome found (IsPieceLeft self.now)) }
         ensures place { IfOk result (λ found. IfSome found (λ piece. LiesBehindTail self.now piece.0 piece.1.items)) }
     {
@@ -244,7 +245,7 @@ impl MetaStore {
     /// that `begin` made.
     pub fn flushed(&mut self)
         requires { IsAllWritten self.old }
-        ensures { self.new ≡ after_flush self.old self.old.begun }
+        ensures { self.new ≡ with_record_stable self.old self.old.begun }
     {
         if let Some(begun) = self.begun.take() {
             self.tail += begun.sealed.units();

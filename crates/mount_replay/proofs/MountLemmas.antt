@@ -17,8 +17,8 @@ use Rattle.run_facts.specs.Prelude.{IsOpenable, IsKept}
 use Rattle.run_facts.proofs.Prelude.{kept_open}
 use Rattle.crash_facts.specs.Store.{KeepsDurable, IsMounted}
 use Rattle.crash_facts.proofs.Keeping.{mounted_keeps}
-use Rattle.log_replay.specs.Prelude.{Told, IsLater, IsAllClean, AreClearing, IsCleared, ClearsSoFar, IsAbout, IsFoundIn, IsRefused, IsUnopenable, FailsMount, IsFoundOn, IsJudged, as_found, first_behind, half_end, rest_of, AreStaleOf, IsLogCleared, ClearsLog, AreZeroOutside, AreRunsOn}
-use Rattle.mount_replay.specs.Mounting.{with_stale, IsStaleIn, behind_records, WasOpened, IsOpenedOn, StaysDurable}
+use Rattle.log_replay.specs.Prelude.{Told, IsLater, IsAllClean, AreClearing, IsCleared, ClearsSoFar, IsAbout, IsFoundIn, IsMountRefused, IsUnopenable, FailsMount, IsFoundOn, IsJudged, as_found, first_behind, half_end, rest_of, AreStaleOf, IsLogCleared, ClearsLog, AreZeroOutside, AreRunsOn}
+use Rattle.mount_replay.specs.Mounting.{with_stale, IsStaleIn, behind_records, WasOpened, IsOpenedOn, MountStaysDurable}
 use Rattle.log_replay.specs.declared.opening.MountFail.{MountFail}
 use Rattle.log_replay.specs.declared.opening.MountFail.TheVariants.{Memory, NoSuper, BadRow, NotExact, WornOut, Fault}
 use Rattle.log_replay.specs.declared.replaying.FoundStore.{FoundStore}
@@ -56,7 +56,7 @@ told_before P (Some h) k p = record { old = h; told = refl; holds = p }
 
 -- ---- a device that is as it was
 
-pub stays_same : (d : Disk) → IsSound d → StaysDurable d d
+pub stays_same : (d : Disk) → IsSound d → MountStaysDurable d d
 stays_same d sound h opening told clean stands = record {
   history = h;
   told = told;
@@ -105,7 +105,7 @@ module _ (s : FoundStore) (d : Disk) (sound : IsSound d) (found : IsFoundOn d s)
       let same = subst (λ l. ClearsSoFar (first_behind s) (half_end s) l h k) (rest_is h told clean) so_far in
       (after_clearing (with_stale s runs) h opening clean (whole h told) (whole_now h told) found.limits good.good here stands k same).cuts
 
-  pub stays_begun : (now : Disk) → Told (ClearsLog s found.half) d.history now.history → StaysDurable d now
+  pub stays_begun : (now : Disk) → Told (ClearsLog s found.half) d.history now.history → MountStaysDurable d now
   stays_begun now told h opening is clean stands =
       let after = told_after (ClearsLog s found.half) now.history h (subst (λ o. Told (ClearsLog s found.half) o now.history) is told) in record {
         history = after.now;
@@ -207,7 +207,7 @@ found_about : (s : FoundStore) (d : Disk) → IsFoundOn d s → (P : List ℕ �
 found_about s d found P then =
     about_more d (λ contents. IsFoundIn contents (as_found s) × (found.half ≡ active_half contents s.sup)) P (λ contents both. then contents both.0) found.about
 
-pub refused_fails : (s : FoundStore) (d : Disk) (before now : ℕ) (fail : MountFail) → IsFoundOn d s → IsRefused fail (as_found s) → FailsMount fail d before now
+pub refused_fails : (s : FoundStore) (d : Disk) (before now : ℕ) (fail : MountFail) → IsFoundOn d s → IsMountRefused fail (as_found s) → FailsMount fail d before now
 refused_fails s d before now Memory found refused = about_all d (λ contents. Unit {0}) (λ contents. tt)
 refused_fails s d before now NoSuper found refused = absurd refused
 refused_fails s d before now (BadRow key) found refused = found_about s d found (IsUnopenable (BadRow key)) (λ contents here. (as_found s, here, refused))

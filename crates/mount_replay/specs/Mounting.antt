@@ -72,8 +72,8 @@ pub record StandsStill (h : History) (opening : Objects) (now : Disk) : Type 0 w
   pub cuts : EachCutStands (length h.log) history opening (record { entries = []; commits = [] })
 
 -- Where nothing was dirty, each crash while a store was mounted leaves the objects that the contents stood for.
-abbrev pub StaysDurable : Disk → Disk → Type 0
-StaysDurable given now = (h : History) (opening : Objects) → given.history ≡ Some h → IsAllClean h → StandsFor (last h.start h.log) opening
+abbrev pub MountStaysDurable : Disk → Disk → Type 0
+MountStaysDurable given now = (h : History) (opening : Objects) → given.history ≡ Some h → IsAllClean h → StandsFor (last h.start h.log) opening
     → StandsStill h opening now
 
 -- ends of what was in flight were taken, and nothing else was done

@@ -9,7 +9,7 @@
 //! most 64, and a flush; each was awaited before the next. Of one that a fault or want of memory ends on the way it is claimed that the
 //! device comes back, later in its life, and what follows here. Each crash on the way leaves the objects that the contents stood for,
 //! unless something torn is valid by chance, also where a write or a flush of the mount ends badly (clause `durable`, word
-//! `StaysDurable`). So recovery may itself be cut, and cut again.
+//! `MountStaysDurable`). So recovery may itself be cut, and cut again.
 #![tactic(auto)]
 
 mod laws;

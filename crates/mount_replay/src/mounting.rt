@@ -6,7 +6,7 @@ ghost use Rattle.unit_allocator.specs.Prelude.{Space};
 ghost use Rattle.store_steps.specs.declared.step.Step.TheVariants.{Reap};
 ghost use Rattle.store_steps.specs.Prelude.{State, Found, is_ready, Calls, stepping};
 ghost use Rattle.log_replay.specs.Prelude.{Told, IsLater, FailsMount, SubmitsNothing, IsFoundOn, IsJudged, AreStaleOf, AreRunsOn, IsLogCleared, ClearsLog, as_found};
-ghost use Rattle.mount_replay.specs.Mounting.{IsOpenedOn, BeganToClear, LeftUnopened, StaysDurable, IsReapedTo, with_stale};
+ghost use Rattle.mount_replay.specs.Mounting.{IsOpenedOn, BeganToClear, LeftUnopened, MountStaysDurable, IsReapedTo, with_stale};
 
 use block_device::{Device, Failed};
 use log_replay::{FoundStore, MountFail, clear_behind, failed, find_store, judge, other_runs};
@@ -63,7 +63,7 @@ fn open_on<D: Device>(
     ensures writes { IfErr result (λ e. BeganToClear (D.disk dev) (D.disk e.1)) }
     ensures back { IfErr result (λ e. IsLater (D.disk dev) (D.disk e.1)) }
     ensures faults { MatchResult result (λ k. D.faults dev ≤ D.faults k.device) (λ e. D.faults dev ≤ D.faults e.1) }
-    ensures durable { MatchResult result (λ k. StaysDurable (D.disk dev) (D.disk k.device)) (λ e. StaysDurable (D.disk dev) (D.disk e.1)) }
+    ensures durable { MatchResult result (λ k. MountStaysDurable (D.disk dev) (D.disk k.device)) (λ e. MountStaysDurable (D.disk dev) (D.disk e.1)) }
 {
     let mut dev = dev;
     let events = match clear_log(alloc, &mut dev, &found) {
@@ -87,7 +87,7 @@ pub fn mount<D: Device>(alloc: Global, dev: D) -> Result<Kernel<D>, (MountFail, 
     ensures writes { IfErr result (λ e. LeftUnopened (D.disk dev) (D.disk e.1)) }
     ensures back { IfErr result (λ e. IsLater (D.disk dev) (D.disk e.1)) }
     ensures later { MatchResult result (λ k. D.faults dev ≤ D.faults k.device) (λ e. D.faults dev ≤ D.faults e.1) }
-    ensures durable { MatchResult result (λ k. StaysDurable (D.disk dev) (D.disk k.device)) (λ e. StaysDurable (D.disk dev) (D.disk e.1)) }
+    ensures durable { MatchResult result (λ k. MountStaysDurable (D.disk dev) (D.disk k.device)) (λ e. MountStaysDurable (D.disk dev) (D.disk e.1)) }
 {
     let mut dev = dev;
     let found = match find_store(alloc, &mut dev) {

@@ -11,7 +11,7 @@ use Rattle.std.proofs.lemmas.Bool.Decides.{nat_tests}
 use Rattle.std.proofs.lemmas.Bool.{cases_lt}
 use Rattle.std.proofs.lemmas.List.{get_or_default, take-append-drop, drop-drop, length-take, length-drop, get_or-take, get_or-drop, append-nil}
 use Rattle.std.proofs.lemmas.List.Elements.{filter-append}
-use Rattle.number_map.specs.NumberMap.{place_by, place_from, is_in, IsFront, IsBack}
+use Rattle.number_map.specs.NumberMap.{place_by, place_from, is_key_in, IsFront, IsBack}
 use Rattle.number_map.proofs.Places.{both_first, both_second}
 
 pub cmp_less : (a b : ℕ) → a < b → nat_cmp a b ≡ Less
@@ -26,13 +26,13 @@ cmp_greater a b lt = grind (arith, nat_tests)
 pub less_is : (a b : ℕ) → T (is_lt (nat_cmp a b)) → a < b
 less_is a b h = grind (arith, nat_tests)
 
-inside_is : (from end key : ℕ) → from ≤ key → key < end → is_in from end key ≡ true
+inside_is : (from end key : ℕ) → from ≤ key → key < end → is_key_in from end key ≡ true
 inside_is from end key le lt = grind (arith, nat_tests)
 
-low_is : (from end key : ℕ) → key < from → is_in from end key ≡ false
+low_is : (from end key : ℕ) → key < from → is_key_in from end key ≡ false
 low_is from end key lt = grind (arith, nat_tests)
 
-high_is : (from end key : ℕ) → end ≤ key → is_in from end key ≡ false
+high_is : (from end key : ℕ) → end ≤ key → is_key_in from end key ≡ false
 high_is from end key le = grind (arith, nat_tests)
 
 module _ {X : Type 0} where
@@ -121,19 +121,19 @@ module _ {X : Type 0} where
     high_part : (k : ℕ) (d : ℕ × X) → k < length (drop to es) → end ≤ (get_or (drop to es) k d).0
     high_part k d lt = subst (λ (e : ℕ × X). end ≤ e.0) (sym (get_or-drop to es k d)) (back_to (to + k) d (omega arith) (omega (arith, lt, length-drop to es)))
 
-    pub cut_out : where_key nat_cmp (is_in from end) es ≡ take (to - at) (drop at es)
+    pub cut_out : where_key nat_cmp (is_key_in from end) es ≡ take (to - at) (drop at es)
     cut_out =
-        split (λ e. is_in from end e.0)
-        ∙ ap (λ (xs : List (ℕ × X)). xs ++ (filter (λ e. is_in from end e.0) (take (to - at) (drop at es)) ++ filter (λ e. is_in from end e.0) (drop to es))) (keep_none _ (take at es) (λ k d lt. low_is from end _ (low_part k d lt)))
-        ∙ ap (λ (xs : List (ℕ × X)). xs ++ filter (λ e. is_in from end e.0) (drop to es)) (keep_all _ (take (to - at) (drop at es)) (λ k d lt. let m = middle_k k d lt in inside_is from end _ m.0 m.1))
+        split (λ e. is_key_in from end e.0)
+        ∙ ap (λ (xs : List (ℕ × X)). xs ++ (filter (λ e. is_key_in from end e.0) (take (to - at) (drop at es)) ++ filter (λ e. is_key_in from end e.0) (drop to es))) (keep_none _ (take at es) (λ k d lt. low_is from end _ (low_part k d lt)))
+        ∙ ap (λ (xs : List (ℕ × X)). xs ++ filter (λ e. is_key_in from end e.0) (drop to es)) (keep_all _ (take (to - at) (drop at es)) (λ k d lt. let m = middle_k k d lt in inside_is from end _ m.0 m.1))
         ∙ ap (λ (xs : List (ℕ × X)). take (to - at) (drop at es) ++ xs) (keep_none _ (drop to es) (λ k d lt. high_is from end _ (high_part k d lt)))
         ∙ append-nil (take (to - at) (drop at es))
 
-    pub left_over : where_key nat_cmp (λ k. not (is_in from end k)) es ≡ take at es ++ drop to es
+    pub left_over : where_key nat_cmp (λ k. not (is_key_in from end k)) es ≡ take at es ++ drop to es
     left_over =
-        split (λ e. not (is_in from end e.0))
-        ∙ ap (λ (xs : List (ℕ × X)). xs ++ (filter (λ e. not (is_in from end e.0)) (take (to - at) (drop at es)) ++ filter (λ e. not (is_in from end e.0)) (drop to es))) (keep_all _ (take at es) (λ k d lt. ap not (low_is from end _ (low_part k d lt))))
-        ∙ ap (λ (xs : List (ℕ × X)). take at es ++ (xs ++ filter (λ e. not (is_in from end e.0)) (drop to es))) (keep_none _ (take (to - at) (drop at es)) (λ k d lt. let m = middle_k k d lt in ap not (inside_is from end _ m.0 m.1)))
+        split (λ e. not (is_key_in from end e.0))
+        ∙ ap (λ (xs : List (ℕ × X)). xs ++ (filter (λ e. not (is_key_in from end e.0)) (take (to - at) (drop at es)) ++ filter (λ e. not (is_key_in from end e.0)) (drop to es))) (keep_all _ (take at es) (λ k d lt. ap not (low_is from end _ (low_part k d lt))))
+        ∙ ap (λ (xs : List (ℕ × X)). take at es ++ (xs ++ filter (λ e. not (is_key_in from end e.0)) (drop to es))) (keep_none _ (take (to - at) (drop at es)) (λ k d lt. let m = middle_k k d lt in ap not (inside_is from end _ m.0 m.1)))
         ∙ ap (λ (xs : List (ℕ × X)). take at es ++ xs) (keep_all _ (drop to es) (λ k d lt. ap not (high_is from end _ (high_part k d lt))))
 
   pub above : (key : ℕ) (es : List (ℕ × X)) (at : ℕ) (c : ℕ × X) → IsBack key at es → ((get_or es at c).0 ≡ key → ⊥) → (d : ℕ × X) → at < length es → key < (get_or es at d).0
@@ -143,12 +143,12 @@ module _ {X : Type 0} where
   ]
 
   pub range_removed : (m : FinMap nat_cmp X) (from end : ℕ) (es : List (ℕ × X)) → T (is_sorted nat_cmp es) → map.from_sorted es ≡ m
-      → map.from_sorted (where_key nat_cmp (λ k. not (is_in from end k)) es) ≡ map.retain_keys m (λ k. not (is_in from end k))
+      → map.from_sorted (where_key nat_cmp (λ k. not (is_key_in from end k)) es) ≡ map.retain_keys m (λ k. not (is_key_in from end k))
   range_removed m from end es sorted is = map.same_map nat_cmp_total nat_cmp-IsAntisymmetric _ _ (λ q.
       get-from_sorted nat_cmp _ q (is_sorted-where_key nat_cmp _ es sorted)
-      ∙ find-where_key nat_cmp (λ k. not (is_in from end k)) q (alike q) es
-      ∙ ap (λ (o : Option X). cond (not (is_in from end q)) o None) (sym (get-from_sorted nat_cmp es q sorted) ∙ ap (λ (n : FinMap nat_cmp X). map.get n q) is)
-      ∙ sym (map.get-retain_keys m (λ k. not (is_in from end k)) q (alike q)))
+      ∙ find-where_key nat_cmp (λ k. not (is_key_in from end k)) q (alike q) es
+      ∙ ap (λ (o : Option X). cond (not (is_key_in from end q)) o None) (sym (get-from_sorted nat_cmp es q sorted) ∙ ap (λ (n : FinMap nat_cmp X). map.get n q) is)
+      ∙ sym (map.get-retain_keys m (λ k. not (is_key_in from end k)) q (alike q)))
     where
-      alike : (q x : ℕ) → nat_cmp q x ≡ Equal → not (is_in from end x) ≡ not (is_in from end q)
-      alike q x e = ap (λ k. not (is_in from end k)) (sym (nat_cmp-IsAntisymmetric q x e))
+      alike : (q x : ℕ) → nat_cmp q x ≡ Equal → not (is_key_in from end x) ≡ not (is_key_in from end q)
+      alike q x e = ap (λ k. not (is_key_in from end k)) (sym (nat_cmp-IsAntisymmetric q x e))

@@ -2,7 +2,7 @@
 ghost use Rattle.std.specs.Prelude.{◌≡◌, ◌≤◌, ◌-◌, T, not, length, IfOk, take, drop, ◌++◌, ◌==◌, OnOk, OnErr, IsOk, IsTrue, option_copied};
 ghost use Rattle.std.specs.Ordering.{nat_cmp};
 ghost use Rattle.std.specs.FinMap as map;
-ghost use Rattle.number_map.specs.NumberMap.{place_from, is_in, IsFront, IsBack};
+ghost use Rattle.number_map.specs.NumberMap.{place_from, is_key_in, IsFront, IsBack};
 ghost use Rattle.std.specs.FinMap.Entries.{where_key};
 
 use std::alloc::{AllocError, Global};
@@ -164,8 +164,8 @@ fn span<V>(entries: &[(u32, V)], from: u32, end: u32) -> (usize, usize)
     requires sorted { T (map.is_sorted nat_cmp entries.now) }
     ensures order { result.0 ≤ result.1 }
     ensures within { result.1 ≤ length entries.now }
-    ensures cut { where_key nat_cmp (is_in from end) entries.now ≡ take (result.1 - result.0) (drop result.0 entries.now) }
-    ensures rest { where_key nat_cmp (λ k. not (is_in from end k)) entries.now ≡ take result.0 entries.now ++ drop result.1 entries.now }
+    ensures cut { where_key nat_cmp (is_key_in from end) entries.now ≡ take (result.1 - result.0) (drop result.0 entries.now) }
+    ensures rest { where_key nat_cmp (λ k. not (is_key_in from end k)) entries.now ≡ take result.0 entries.now ++ drop result.1 entries.now }
 {
     let at = below(entries, from);
     let to = below(entries, end);
@@ -202,8 +202,8 @@ impl<V: Copy + Drop> NumberMap<V> {
     /// the map is as it was.
     pub fn cut(&mut self, alloc: Global, from: u32, end: u32) -> Result<Vec<(u32, V)>, AllocError>
         requires { from ≤ end }
-        ensures ok { OnOk result (self.new ≡ map.retain_keys self.old (λ k. not (is_in from end k))) }
-        ensures cut { IfOk result (λ v. v.items ≡ where_key nat_cmp (is_in from end) (map.entries self.old)) }
+        ensures ok { OnOk result (self.new ≡ map.retain_keys self.old (λ k. not (is_key_in from end k))) }
+        ensures cut { IfOk result (λ v. v.items ≡ where_key nat_cmp (is_key_in from end) (map.entries self.old)) }
         ensures err { OnErr result (self.new ≡ self.old) }
     {
         let (at, to) = span(&self.entries, from, end);

@@ -20,7 +20,7 @@ pub struct ObjectLines {
 /// The command of a line on a collection.
 fn command(alloc: Global, coll: CollName, line: &str) -> Result<Command, CaseError> {
     match question(alloc, &coll, line)? {
-        Some(command) => Ok(command),
+        Some(read) => Ok(Command::Read(read)),
         None => transaction(alloc, coll, line).map(Command::Change),
     }
 }

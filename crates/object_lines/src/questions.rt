@@ -2,7 +2,7 @@
 
 use crate::reading::{last_name, two_names};
 use case_text::{CaseError, Words, kind_of};
-use object_model::Command;
+use object_model::Read;
 use plain_reader::name_of;
 use std::alloc::Global;
 use unit_fields::CollName;
@@ -45,18 +45,18 @@ static READ_KINDS: [(&str, ReadKind); 7] = [
     ("omapgetheader", ReadKind::Object(ObjectRead::OmapHeader)),
 ];
 
-fn list(alloc: Global, coll: &CollName, words: Words<'_>) -> Result<Command, CaseError> {
+fn list(alloc: Global, coll: &CollName, words: Words<'_>) -> Result<Read, CaseError> {
     words.end()?;
     let coll = coll.copy(alloc)?;
-    Ok(Command::List { coll })
+    Ok(Read::List { coll })
 }
 
-fn read(alloc: Global, coll: &CollName, mut words: Words<'_>) -> Result<Command, CaseError> {
+fn read(alloc: Global, coll: &CollName, mut words: Words<'_>) -> Result<Read, CaseError> {
     let object = words.next()?;
     let [off, len] = words.numbers::<2>()?;
     let object = name_of(alloc, object.as_bytes())?;
     let coll = coll.copy(alloc)?;
-    Ok(Command::Read {
+    Ok(Read::Bytes {
         coll,
         object,
         off,
@@ -69,13 +69,13 @@ fn of_object(
     coll: &CollName,
     kind: ObjectRead,
     words: Words<'_>,
-) -> Result<Command, CaseError> {
+) -> Result<Read, CaseError> {
     let object = last_name(alloc, words)?;
     let coll = coll.copy(alloc)?;
     Ok(match kind {
-        ObjectRead::Sum => Command::Sum { coll, object },
-        ObjectRead::Stat => Command::Stat { coll, object },
-        ObjectRead::OmapHeader => Command::OmapHeader { coll, object },
+        ObjectRead::Sum => Read::Sum { coll, object },
+        ObjectRead::Stat => Read::Stat { coll, object },
+        ObjectRead::OmapHeader => Read::OmapHeader { coll, object },
     })
 }
 
@@ -84,12 +84,12 @@ fn of_value(
     coll: &CollName,
     kind: ValueRead,
     words: Words<'_>,
-) -> Result<Command, CaseError> {
+) -> Result<Read, CaseError> {
     let (object, name) = two_names(alloc, words)?;
     let coll = coll.copy(alloc)?;
     Ok(match kind {
-        ValueRead::Attr => Command::GetAttr { coll, object, name },
-        ValueRead::Omap => Command::OmapGet {
+        ValueRead::Attr => Read::GetAttr { coll, object, name },
+        ValueRead::Omap => Read::OmapGet {
             coll,
             object,
             key: name,
@@ -103,7 +103,7 @@ fn asked(
     coll: &CollName,
     kind: ReadKind,
     words: Words<'_>,
-) -> Result<Command, CaseError> {
+) -> Result<Read, CaseError> {
     match kind {
         ReadKind::List => list(alloc, coll, words),
         ReadKind::Read => read(alloc, coll, words),
@@ -113,7 +113,7 @@ fn asked(
 }
 
 /// The read of a collection that a line asks for, where it is one.
-pub fn question(alloc: Global, coll: &CollName, line: &str) -> Result<Option<Command>, CaseError> {
+pub fn question(alloc: Global, coll: &CollName, line: &str) -> Result<Option<Read>, CaseError> {
     match kind_of(&READ_KINDS, line) {
         Some((kind, words)) => asked(alloc, coll, kind, words).map(Some),
         None => Ok(None),

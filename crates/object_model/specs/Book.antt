@@ -3,6 +3,7 @@ use Rattle.std.specs.Prelude.{◌≡◌, ℕ, ◌+◌, ◌<◌, ◌≤◌, Bool,
 use Rattle.std.specs.List.{filter_map, list_any, AllByRecursion, IsDistinct}
 use Rattle.object_model.specs.declared.command.Command.{Command}
 use Rattle.object_model.specs.declared.command.Command.TheVariants as ask
+use Rattle.object_model.specs.declared.command.Read.TheVariants as reads
 use Rattle.object_model.specs.declared.command.Answer.{Answer}
 use Rattle.object_model.specs.declared.command.Answer.TheVariants as answer
 use Rattle.object_model.specs.declared.book.Entry.{Entry}
@@ -30,8 +31,8 @@ abbrev pub is_of_device : Command → Answer → Bool
 is_of_device (ask.Change change) (answer.NoSpace need free) = true
 is_of_device (ask.Change change) (answer.MetaFull need room) = true
 is_of_device (ask.Change change) (answer.Csum unit kept found) = true
-is_of_device (ask.Read c o off len) (answer.Csum unit kept found) = true
-is_of_device (ask.Sum c o) (answer.Csum unit kept found) = true
+is_of_device (ask.Read (reads.Bytes c o off len)) (answer.Csum unit kept found) = true
+is_of_device (ask.Read (reads.Sum c o)) (answer.Csum unit kept found) = true
 is_of_device command a = false
 
 -- An entry has the answer that these objects give, or one of the device's where they give no refusal.
@@ -64,8 +65,8 @@ places_from coll i [] = []
 places_from coll i (e ∷ es) = let later : List ℕ = places_from coll (i + 1) es in
     if is_on coll (accepted_change e.command e.answer) then i ∷ later else later
 
-abbrev pub places_of : List ℕ → List Entry → List ℕ
-places_of coll entries = places_from coll 0 entries
+abbrev pub entry_places : List ℕ → List Entry → List ℕ
+entry_places coll entries = places_from coll 0 entries
 
 -- the places of a collection's commits, in commit order
 abbrev pub committed_places : List ℕ → List Entry → List Commit → List ℕ
@@ -98,7 +99,7 @@ pub record IsLegal (objects : Objects) (book : Book) : Type 0 where
   pub answers : AnswersFrom objects book.entries
   pub of_accepted : AllByRecursion (λ c. IsSome (change_at book.entries c.place)) book.commits
   pub once : IsDistinct nat_eq (map (λ c. c.place) book.commits)
-  pub in_order : (coll : List ℕ) → IsPrefixOf (committed_places coll book.entries book.commits) (places_of coll book.entries)
+  pub in_order : (coll : List ℕ) → IsPrefixOf (committed_places coll book.entries book.commits) (entry_places coll book.entries)
   pub acked_first : AreAckedFrom 0 book.commits
   pub counts : AreCountsWithin 0 (acked_count book.commits) book.entries
 

@@ -8,6 +8,8 @@ use Rattle.object_model.specs.declared.op.Refusal.{Refusal}
 use Rattle.object_model.specs.declared.op.Refusal.TheVariants.{NoCollection, NoObject, NoAttr, BadRange}
 use Rattle.object_model.specs.declared.command.Command.{Command}
 use Rattle.object_model.specs.declared.command.Command.TheVariants as ask
+use Rattle.object_model.specs.declared.command.Read.{Read}
+use Rattle.object_model.specs.declared.command.Read.TheVariants as reads
 use Rattle.object_model.specs.declared.command.Answer.{Answer}
 use Rattle.object_model.specs.declared.command.Answer.TheVariants as answer
 use Rattle.object_model.specs.Objects.{Object, Collection, Objects}
@@ -40,14 +42,18 @@ answer_of_object objects c o read = answer_from (found_object objects c o) read
 abbrev pub value_of : ByteMap (List ℕ) → List ℕ → Answer
 value_of m name = option_map_or (λ value. answer.Bytes value) (finite.get m name) (answer.Refused NoAttr)
 
--- The answer of plain objects to each command. A read is cut at the object's size.
+-- The answer of plain objects to each read. One of bytes is cut at the object's size.
+abbrev pub read_reply : Read → Objects → Answer
+read_reply (reads.Bytes c o off len) objects = answer_of_object objects c o (λ b.
+    if nat_lt object_limit (off + len) then answer.Refused BadRange else answer.Bytes (take len (drop off b.bytes)))
+read_reply (reads.Sum c o) objects = answer_of_object objects c o (λ b. answer.Sum (length b.bytes) (crc32c b.bytes))
+read_reply (reads.Stat c o) objects = answer_of_object objects c o (λ b. answer.Size (length b.bytes))
+read_reply (reads.GetAttr c o name) objects = answer_of_object objects c o (λ b. value_of b.attrs name)
+read_reply (reads.OmapGet c o key) objects = answer_of_object objects c o (λ b. value_of b.omap key)
+read_reply (reads.OmapHeader c o) objects = answer_of_object objects c o (λ b. answer.Bytes b.header)
+read_reply (reads.List c) objects = answer_from (found_collection objects c) (λ found. answer.Names (finite.keys found))
+
+-- The answer of plain objects to each command.
 abbrev pub reply_of : Command → Objects → Answer
 reply_of (ask.Change change) objects = accepted_if (submitted_effect change objects)
-reply_of (ask.Read c o off len) objects = answer_of_object objects c o (λ b.
-    if nat_lt object_limit (off + len) then answer.Refused BadRange else answer.Bytes (take len (drop off b.bytes)))
-reply_of (ask.Sum c o) objects = answer_of_object objects c o (λ b. answer.Sum (length b.bytes) (crc32c b.bytes))
-reply_of (ask.Stat c o) objects = answer_of_object objects c o (λ b. answer.Size (length b.bytes))
-reply_of (ask.GetAttr c o name) objects = answer_of_object objects c o (λ b. value_of b.attrs name)
-reply_of (ask.OmapGet c o key) objects = answer_of_object objects c o (λ b. value_of b.omap key)
-reply_of (ask.OmapHeader c o) objects = answer_of_object objects c o (λ b. answer.Bytes b.header)
-reply_of (ask.List c) objects = answer_from (found_collection objects c) (λ found. answer.Names (finite.keys found))
+reply_of (ask.Read read) objects = read_reply read objects

@@ -8,8 +8,14 @@ use unit_fields::{CollName, Name, UnitNo};
 #[derive(Drop)]
 pub enum Command {
     Change(Transaction),
+    Read(Read),
+}
+
+/// A read of a collection or of an object in it. It changes nothing.
+#[derive(Drop)]
+pub enum Read {
     /// Bytes of an object, cut at its size.
-    Read {
+    Bytes {
         coll: CollName,
         object: Name,
         off: u64,

@@ -12,9 +12,9 @@ mod limits;
 mod op;
 mod transaction;
 
-pub use asked::{Asked, CommandKind};
+pub use asked::{Asked, ReadKind};
 pub use book::{Book, Commit, Entry};
-pub use command::{Answer, Command};
+pub use command::{Answer, Command, Read};
 pub use laws::{
     a_transaction_has_one_name, replay_by_collections, replay_keeps_other_collections,
     replay_of_refused, replay_of_two_collections, replay_of_two_lists,

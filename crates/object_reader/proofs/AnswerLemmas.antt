@@ -1,34 +1,35 @@
 -- Answers to commands that read, from the parts that were read.
-use Rattle.std.proofs.Common.{◌≡◌, ℕ, ◌+◌, ◌/◌, ◌≤◌, Bool, true, false, cond, List, take, drop, Option, Some, None, is_some, refl, sym, ap, subst, arith}
+use Rattle.std.proofs.Common.{◌≡◌, ℕ, ◌+◌, ◌/◌, ◌≤◌, Bool, true, false, cond, List, take, drop, Option, Some, None, is_some, unwrap_or, refl, sym, ap, subst, arith}
 use Rattle.std.specs.Prelude.{not, nat_lt, Result, Ok, Err, IsOk, IfOk, IfErr, MatchOption}
 use Rattle.std.specs.FinMap as finite
-use Rattle.std.proofs.lemmas.Bool.{le-ltb}
+use Rattle.std.proofs.lemmas.Bool.{le-ltb, ltb-false}
 use Rattle.block_device.specs.Prelude.{Disk}
 use Rattle.object_model.specs.Prelude.{Object, object_limit, answer_from, found_object, is_refused}
 use Rattle.object_model.specs.declared.op.Refusal.{Refusal}
 use Rattle.object_model.specs.declared.op.Refusal.TheVariants.{NoObject, BadRange}
 use Rattle.object_model.specs.declared.command.Command.TheVariants as ask
+use Rattle.object_model.specs.declared.command.Read.TheVariants as reads
 use Rattle.object_model.specs.declared.command.Answer.{Answer}
 use Rattle.object_model.specs.declared.command.Answer.TheVariants as answer
 use Rattle.meta_rows.specs.Prelude.{Rows, row}
 use Rattle.unit_fields.specs.Prelude.{IsName, IsCollName}
 use Rattle.unit_fields.specs.declared.width.Width.{Width}
 use Rattle.row_format.specs.Prelude.{Extent, own, coll_key, onode_key, attr_key, header_key, omap_key, onode}
-use Rattle.store_image.specs.Prelude.{HasKey, HasOnode, IsPageAt, HasPage}
+use Rattle.store_image.specs.Prelude.{HasKey, HasOnode, IsPageAt, HasPage, HasObject}
 use Rattle.store_image.proofs.Prelude.{in_place, on_own}
 use Rattle.page_lookup.specs.Prelude.{place_found, FindPagesOf}
-use Rattle.plan_rows.specs.Prelude.{IsSizeOf, missing, there}
-use Rattle.draft_rows.proofs.GoodPages.{good_page}
-use Rattle.onode_state.specs.Objects.{AreRowsOfAStore, AreRowsOfWidth}
+use Rattle.onode_state.specs.Objects.{IsObjectFound}
+use Rattle.object_rows.proofs.GoodPages.{good_page}
+use Rattle.object_rows.specs.Stores.{AreRowsOfAStore, AreRowsOfWidth}
 use Rattle.read_facts.specs.declared.view.BadSum.{BadSum}
 use Rattle.read_facts.specs.declared.view.ValueView.{ValueView}
 use Rattle.read_facts.specs.Prelude.{IsHeldAt, pages_read, IsRefusedBy, IsNotRefused, Gives, IsAnswerOf, IsObject, AreValues, sum_answer, IsViewOf}
 use Rattle.read_facts.proofs.Keys.{none_of}
-use Rattle.read_facts.proofs.Found.{answer_given, object_missing, object_there}
+use Rattle.read_facts.proofs.Found.{sum_taken, answer_given, object_missing, object_there}
 use Rattle.page_sources.specs.declared.parts.PartFail.{PartFail}
 use Rattle.page_sources.specs.declared.parts.PartFail.TheVariants as why
 use Rattle.page_sources.specs.Prelude.{CanRead, HasPageToRead, IsPartFail}
-use Rattle.object_reader.specs.Missing.{IsObjectMissing, HasObject}
+use Rattle.object_reader.specs.Missing.{IsObjectMissing}
 use Rattle.object_reader.specs.Readable.{IsReadable}
 use Rattle.object_reader.specs.Ranges.{GivesRange, GivesSum}
 use Rattle.object_reader.specs.PartFails.{IsCsumOf, IsSumOf}
@@ -53,6 +54,10 @@ pub at_none : {A : Type 0} (x : Option A) (P : Type 0) (Q : A → Type 0) → Ma
 at_none None P Q is none = is
 at_none (Some refusal) P Q is none = absurd cc
 
+pub at_some : {A : Type 0} (x : Option A) (y : A) (P : Type 0) (Q : A → Type 0) → MatchOption x P Q → x ≡ Some y → Q y
+at_some None y P Q is some = absurd cc
+at_some (Some z) y P Q is some = subst Q (ap (λ o. unwrap_or o y) some) is
+
 module _ (rows : Rows) (c o : List ℕ) where
   -- an object that has no row in a collection that has one
   pub no_onode_row : IsCollName c → IsName o → HasKey rows (coll_key c) → finite.contains_key rows (onode_key c o) ≡ false
@@ -66,13 +71,13 @@ module _ (rows : Rows) (c o : List ℕ) where
     read_by beyond b = cond beyond (answer.Refused BadRange) (answer.Bytes (take len (drop off b.bytes)))
 
     -- a range within an object's limit, or past it
-    pub read_taken : off + len ≤ object_limit → IsNotRefused rows (ask.Read c o off len)
+    pub read_taken : off + len ≤ object_limit → IsNotRefused rows (ask.Read (reads.Bytes c o off len))
     read_taken within objects shape =
         answer_given (found_object objects c o) (read_by (nat_lt object_limit (off + len)))
         (object_there rows objects shape c o coll name has.0 has.1)
         (λ b. ap (λ (beyond : Bool). not (is_refused (read_by beyond b))) (le-ltb object_limit (off + len) within))
 
-    pub read_too_far : nat_lt object_limit (off + len) ≡ true → IsRefusedBy rows (ask.Read c o off len) BadRange
+    pub read_too_far : nat_lt object_limit (off + len) ≡ true → IsRefusedBy rows (ask.Read (reads.Bytes c o off len)) BadRange
     read_too_far beyond objects shape =
         of (found_object objects c o) (object_there rows objects shape c o coll name has.0 has.1)
       where
@@ -82,16 +87,17 @@ module _ (rows : Rows) (c o : List ℕ) where
 
 -- ---- an object that is there
 
--- its size stands in its onode
-pub has_size : (rows : Rows) (c o : List ℕ) (size : ℕ) → HasKey rows (onode_key c o) → IsSizeOf rows c o size → HasOnode rows c o size
-has_size rows c o size key (missing none) = absurd (let gone : is_some (finite.get rows (onode_key c o)) ≡ false = ap is_some none in cc)
-has_size rows c o size key (there n has) = has
-
 module _ (w : Width) (memory : ℕ → Option (List ℕ)) (d : Disk) (rows : Rows) (c o : List ℕ) (size : ℕ) (pages : List Extent)
-    (can : IsReadable w memory rows d)
-    (was_long : IsSizeOf rows c o size) (are_pages : FindPagesOf w rows c o pages) (key : HasKey rows (onode_key c o)) where
+    (can : IsReadable w memory rows d) (found : IsObjectFound w rows c o size pages) where
   has : HasOnode rows c o size
-  has = has_size rows c o size key was_long
+  has = found.has_size
+
+  are_pages : FindPagesOf w rows c o pages
+  are_pages = found.are_pages
+
+  -- so its collection is there too
+  pub is_there : HasObject rows c o
+  is_there = ((in_place can.sup rows (onode c o size) can.good has).0, ap is_some has.stands)
 
   -- a page that is found stands on its unit
   page_on : (page unit csum : ℕ) → place_found pages page ≡ Some (own unit csum) → HasPage w rows unit
@@ -103,6 +109,16 @@ module _ (w : Width) (memory : ℕ → Option (List ℕ)) (d : Disk) (rows : Row
     is_on = on_own w rows c o page unit csum ((are_pages page (own unit csum)).0 at);
     is_unit = refl;
   }
+
+  -- a range within an object's limit isn't refused
+  pub range_taken : IsCollName c → IsName o → (off len : ℕ) → nat_lt object_limit (off + len) ≡ false
+      → IsNotRefused rows (ask.Read (reads.Bytes c o off len))
+  range_taken coll name off len within =
+      read_taken rows c o coll name is_there off len (omega (arith, ltb-false object_limit (off + len) within))
+
+  -- nor is the sum of its bytes
+  pub whole_taken : IsCollName c → IsName o → IsNotRefused rows (ask.Read (reads.Sum c o))
+  whole_taken coll name = sum_taken rows c o coll name is_there.0 is_there.1
 
   pub can_read : CanRead memory d pages
   can_read = record {
@@ -119,16 +135,16 @@ module _ (w : Width) (memory : ℕ → Option (List ℕ)) (d : Disk) (rows : Row
   size_most = (in_place can.sup rows (onode c o size) can.good has).1
 
   -- the bytes of a range
-  pub bytes_answer : (off len : ℕ) (bytes : List ℕ) → IsNotRefused rows (ask.Read c o off len) → GivesRange memory d pages size off len bytes
-      → IsAnswerOf w memory (IsHeldAt d) rows (ask.Read c o off len) (answer.Bytes bytes)
+  pub bytes_answer : (off len : ℕ) (bytes : List ℕ) → IsNotRefused rows (ask.Read (reads.Bytes c o off len)) → GivesRange memory d pages size off len bytes
+      → IsAnswerOf w memory (IsHeldAt d) rows (reads.Bytes c o off len) (answer.Bytes bytes)
   bytes_answer off len bytes none gives =
       (none, (size, record { has_size = has; pages = gives.whole; good = gives.good.good w rows c o are_pages; cut = gives.cut }))
 
   -- a bad page of a range
-  pub read_fails : (off len : ℕ) (fail : PartFail) (a : Answer) → IsNotRefused rows (ask.Read c o off len)
+  pub read_fails : (off len : ℕ) (fail : PartFail) (a : Answer) → IsNotRefused rows (ask.Read (reads.Bytes c o off len))
       → IsPartFail memory d pages (off / 4096) (pages_read size off len) fail → IsCsumOf fail a
-      → IsAnswerOf w memory (IsHeldAt d) rows (ask.Read c o off len) a
-  read_fails off len (why.BadPage bad) a none fails is = subst (IsAnswerOf w memory (IsHeldAt d) rows (ask.Read c o off len)) (sym is)
+      → IsAnswerOf w memory (IsHeldAt d) rows (reads.Bytes c o off len) a
+  read_fails off len (why.BadPage bad) a none fails is = subst (IsAnswerOf w memory (IsHeldAt d) rows (reads.Bytes c o off len)) (sym is)
       (none, (size, record { has_size = has; first_bad = fails w rows c o are_pages }))
   read_fails off len why.Memory a none fails is = absurd is
   read_fails off len why.Fault a none fails is = absurd is
@@ -146,18 +162,18 @@ module _ (w : Width) (memory : ℕ → Option (List ℕ)) (d : Disk) (rows : Row
   }
 
   -- the device fails only where there is one
-  pub read_needs : (off len : ℕ) (fail : PartFail) → IsNotRefused rows (ask.Read c o off len)
+  pub read_needs : (off len : ℕ) (fail : PartFail) → IsNotRefused rows (ask.Read (reads.Bytes c o off len))
       → IsPartFail memory d pages (off / 4096) (pages_read size off len) fail → fail ≡ why.Fault
-      → ReadNeedsDevice w memory rows (ask.Read c o off len)
+      → ReadNeedsDevice w memory rows (reads.Bytes c o off len)
   read_needs off len fail none fails is =
       (none, (size, needs_device off len (subst (IsPartFail memory d pages (off / 4096) (pages_read size off len)) is fails)))
 
-  pub sum_needs : (fail : PartFail) → IsNotRefused rows (ask.Sum c o) → IsPartFail memory d pages 0 (pages_read size 0 size) fail
-      → fail ≡ why.Fault → ReadNeedsDevice w memory rows (ask.Sum c o)
+  pub sum_needs : (fail : PartFail) → IsNotRefused rows (ask.Read (reads.Sum c o)) → IsPartFail memory d pages 0 (pages_read size 0 size) fail
+      → fail ≡ why.Fault → ReadNeedsDevice w memory rows (reads.Sum c o)
   sum_needs fail none fails is = (none, (size, needs_device 0 size (subst (IsPartFail memory d pages 0 (pages_read size 0 size)) is fails)))
 
   -- the checksum of all bytes
-  gives_sum : (crc : ℕ) → GivesSum memory d pages size crc → Gives w memory (IsHeldAt d) rows (ask.Sum c o) (answer.Sum size crc)
+  gives_sum : (crc : ℕ) → GivesSum memory d pages size crc → Gives w memory (IsHeldAt d) rows (reads.Sum c o) (answer.Sum size crc)
   gives_sum crc gives =
       let whole = gives.gives in (
         gives.bytes,
@@ -165,27 +181,27 @@ module _ (w : Width) (memory : ℕ → Option (List ℕ)) (d : Disk) (rows : Row
       )
 
   gives_bad : (bad : BadSum) → IsPartFail memory d pages 0 (pages_read size 0 size) (why.BadPage bad)
-      → Gives w memory (IsHeldAt d) rows (ask.Sum c o) (answer.Csum bad.unit bad.kept bad.found)
+      → Gives w memory (IsHeldAt d) rows (reads.Sum c o) (answer.Csum bad.unit bad.kept bad.found)
   gives_bad bad fails = (size, record { has_size = has; first_bad = fails w rows c o are_pages })
 
-  pub sum_gives : (crc : ℕ) → IsNotRefused rows (ask.Sum c o) → GivesSum memory d pages size crc
-      → IsAnswerOf w memory (IsHeldAt d) rows (ask.Sum c o) (answer.Sum size crc)
+  pub sum_gives : (crc : ℕ) → IsNotRefused rows (ask.Read (reads.Sum c o)) → GivesSum memory d pages size crc
+      → IsAnswerOf w memory (IsHeldAt d) rows (reads.Sum c o) (answer.Sum size crc)
   sum_gives crc none gives = (none, gives_sum crc gives)
 
-  pub sum_fails : (fail : PartFail) (a : Answer) → IsNotRefused rows (ask.Sum c o) → IsPartFail memory d pages 0 (pages_read size 0 size) fail
-      → IsCsumOf fail a → IsAnswerOf w memory (IsHeldAt d) rows (ask.Sum c o) a
-  sum_fails (why.BadPage bad) a none fails is = subst (IsAnswerOf w memory (IsHeldAt d) rows (ask.Sum c o)) (sym is) (none, gives_bad bad fails)
+  pub sum_fails : (fail : PartFail) (a : Answer) → IsNotRefused rows (ask.Read (reads.Sum c o)) → IsPartFail memory d pages 0 (pages_read size 0 size) fail
+      → IsCsumOf fail a → IsAnswerOf w memory (IsHeldAt d) rows (reads.Sum c o) a
+  sum_fails (why.BadPage bad) a none fails is = subst (IsAnswerOf w memory (IsHeldAt d) rows (reads.Sum c o)) (sym is) (none, gives_bad bad fails)
   sum_fails why.Memory a none fails is = absurd is
   sum_fails why.Fault a none fails is = absurd is
 
   -- what a view shows
   sums : (read : Result ℕ PartFail) (sum : Result ℕ BadSum) → IfOk read (GivesSum memory d pages size)
       → IfErr read (IsPartFail memory d pages 0 (pages_read size 0 size)) → IsSumOf read sum
-      → Gives w memory (IsHeldAt d) rows (ask.Sum c o) (sum_answer size sum)
+      → Gives w memory (IsHeldAt d) rows (reads.Sum c o) (sum_answer size sum)
   sums (Ok crc) sum good fails is =
-      subst (λ (s : Result ℕ BadSum). Gives w memory (IsHeldAt d) rows (ask.Sum c o) (sum_answer size s)) (sym is) (gives_sum crc good)
+      subst (λ (s : Result ℕ BadSum). Gives w memory (IsHeldAt d) rows (reads.Sum c o) (sum_answer size s)) (sym is) (gives_sum crc good)
   sums (Err (why.BadPage bad)) sum good fails is =
-      subst (λ (s : Result ℕ BadSum). Gives w memory (IsHeldAt d) rows (ask.Sum c o) (sum_answer size s)) (sym is) (gives_bad bad fails)
+      subst (λ (s : Result ℕ BadSum). Gives w memory (IsHeldAt d) rows (reads.Sum c o) (sum_answer size s)) (sym is) (gives_bad bad fails)
   sums (Err why.Memory) sum good fails is = absurd is
   sums (Err why.Fault) sum good fails is = absurd is
 

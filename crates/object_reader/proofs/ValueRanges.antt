@@ -15,14 +15,14 @@ use Rattle.meta_rows.specs.Prelude.{Rows, rows_from_to}
 use Rattle.row_format.specs.Prelude.{attr_key, omap_key}
 use Rattle.row_reading.proofs.KeyOrder.{after_front, has_front}
 use Rattle.row_facts.proofs.ValueRows.{attribute_is, pair_is}
-use Rattle.onode_state.specs.Objects.{AreRowsOfAStore}
+use Rattle.object_rows.specs.Stores.{AreRowsOfAStore}
 use Rattle.read_facts.specs.declared.view.ValueView.{ValueView}
-use Rattle.read_facts.specs.Prelude.{AreAll, IsValue, value_names, AreValues}
+use Rattle.read_facts.specs.Prelude.{AreAll, IsValueOf, value_names, AreValues}
 use Rattle.read_facts.proofs.Shaped.{key_front}
 use Rattle.read_facts.proofs.Walks.{IsFoundIn, found_each, all_to, entries_are_all}
 use Rattle.object_reader.specs.ValueRows.{value_behind, IsNamedBehind}
-use Rattle.object_reader.proofs.NamesRange.{cut, from_range, to_range, AreInRange, lent}
-use Rattle.object_reader.proofs.NamesOrder.{begins, none_below, same_first, lesser_first}
+use Rattle.object_rows.proofs.NamesRange.{cut, from_range, to_range, AreInRange, lent}
+use Rattle.object_rows.proofs.NamesOrder.{begins, none_below, same_first, lesser_first}
 
 -- ---- the keys from a front and a byte on, and below that front and the next byte
 
@@ -143,12 +143,12 @@ module _ (rows : Rows) (key_of : List ℕ → List ℕ) (front end : List ℕ) (
       let skip : ℕ = length front in
       let es : List Entry = map (behind skip) range in
       let sorted : T (is_sorted byte_order es) = subst (λ (b : Bool). T b) (sym (sorted_behind front range have_front)) are.sorted in
-      let values : AllByRecursion (λ (e : Entry). IsValue key_of rows e.0) es =
-      all_mapped (behind skip) (λ (e : Entry). IsValue key_of rows e.0) range
-      (all_to IsOfValue (λ (e : Entry). IsValue key_of rows (drop skip e.0)) (λ e is. record { named = is.name; there = ap is_some is.held }) range of_values) in
+      let values : AllByRecursion (λ (e : Entry). IsValueOf key_of rows e.0) es =
+      all_mapped (behind skip) (λ (e : Entry). IsValueOf key_of rows e.0) range
+      (all_to IsOfValue (λ (e : Entry). IsValueOf key_of rows (drop skip e.0)) (λ e is. record { named = is.name; there = ap is_some is.held }) range of_values) in
       record {
-        all = subst (AreAll (IsValue key_of rows)) (same_names skip range)
-            (entries_are_all (IsValue key_of rows) es sorted values (λ name its.
+        all = subst (AreAll (IsValueOf key_of rows)) (same_names skip range)
+            (entries_are_all (IsValueOf key_of rows) es sorted values (λ name its.
             ap is_some (find_behind front name range have_front ∙ are.finds (front ++ name)
             ∙ ap (λ (b : Bool). cond b (finite.get rows (front ++ name)) None) (holds name) ∙ ap (finite.get rows) (keys name)) ∙ its.there));
         each = all_mapped (value_behind skip) (λ (v : ValueView). finite.get rows (key_of v.name) ≡ Some v.value) range

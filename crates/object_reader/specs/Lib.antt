@@ -1,6 +1,5 @@
 pub mod Missing
 pub mod Readable
-pub mod NextKeys
 pub mod Ranges
 pub mod PartFails
 pub mod ToRead

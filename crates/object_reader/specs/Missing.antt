@@ -3,8 +3,7 @@ use Rattle.std.specs.Prelude.{◌≡◌, List, ℕ, Err}
 use Rattle.object_model.specs.declared.op.Refusal.{Refusal}
 use Rattle.object_model.specs.Prelude.{Objects, found_collection, found_object}
 use Rattle.meta_rows.specs.Prelude.{Rows}
-use Rattle.row_format.specs.Prelude.{coll_key, onode_key}
-use Rattle.store_image.specs.Prelude.{HasKey, IsShape}
+use Rattle.store_image.specs.Prelude.{IsShape}
 
 -- what looks for the collection is refused with this
 abbrev pub IsCollMissing : Rows → List ℕ → Refusal → Type 0
@@ -13,7 +12,3 @@ IsCollMissing rows c refusal = (objects : Objects) → IsShape rows objects → 
 -- and what looks for the object
 abbrev pub IsObjectMissing : Rows → List ℕ → List ℕ → Refusal → Type 0
 IsObjectMissing rows c o refusal = (objects : Objects) → IsShape rows objects → found_object objects c o ≡ Err refusal
-
--- the rows have the collection, and the object in it
-abbrev pub HasObject : Rows → List ℕ → List ℕ → Type 0
-HasObject rows c o = HasKey rows (coll_key c) × HasKey rows (onode_key c o)

@@ -1,8 +1,9 @@
--- Commands for which the device has to be read.
+-- Reads for which the device has to be read.
 use Rattle.std.specs.Prelude.{◌≡◌, ℕ, ◌+◌, ◌/◌, ◌<◌, List, Option, None}
 use Rattle.unit_fields.specs.declared.width.Width.{Width}
-use Rattle.object_model.specs.declared.command.Command.{Command}
-use Rattle.object_model.specs.declared.command.Command.TheVariants.{Read, Sum}
+use Rattle.object_model.specs.declared.command.Command.TheVariants as ask
+use Rattle.object_model.specs.declared.command.Read.{Read}
+use Rattle.object_model.specs.declared.command.Read.TheVariants as reads
 use Rattle.meta_rows.specs.Prelude.{Rows}
 use Rattle.store_image.specs.Prelude.{HasOnode, PageUnit, IsPageOn}
 use Rattle.read_facts.specs.Prelude.{IsNotRefused, pages_read}
@@ -16,8 +17,9 @@ pub record RangeNeedsDevice (w : Width) (memory : ℕ → Option (List ℕ)) (ro
   pub is_on : IsPageOn w rows c o (off / 4096 + index) on
   pub not_in_memory : memory on.unit ≡ None
 
--- The command asks for bytes of an object or for their checksum, isn't refused, and a page that it reads stands on such a unit.
-abbrev pub ReadNeedsDevice : Width → (ℕ → Option (List ℕ)) → Rows → Command → Type 0
-ReadNeedsDevice w memory rows (Read c o off len) = IsNotRefused rows (Read c o off len) × ((size : ℕ) × RangeNeedsDevice w memory rows c o size off len)
-ReadNeedsDevice w memory rows (Sum c o) = IsNotRefused rows (Sum c o) × ((size : ℕ) × RangeNeedsDevice w memory rows c o size 0 size)
-ReadNeedsDevice w memory rows command = ⊥
+-- It asks for bytes of an object or for their checksum, isn't refused, and a page that it reads stands on such a unit.
+abbrev pub ReadNeedsDevice : Width → (ℕ → Option (List ℕ)) → Rows → Read → Type 0
+ReadNeedsDevice w memory rows (reads.Bytes c o off len) =
+    IsNotRefused rows (ask.Read (reads.Bytes c o off len)) × ((size : ℕ) × RangeNeedsDevice w memory rows c o size off len)
+ReadNeedsDevice w memory rows (reads.Sum c o) = IsNotRefused rows (ask.Read (reads.Sum c o)) × ((size : ℕ) × RangeNeedsDevice w memory rows c o size 0 size)
+ReadNeedsDevice w memory rows read = ⊥

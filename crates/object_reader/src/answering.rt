@@ -1,39 +1,38 @@
-//! Commands that read, answered.
-ghost use Rattle.std.specs.Prelude.{◌≡◌, ℕ, ◌+◌, ◌≤◌, List, Option, IfOk, IsErrOf, MatchOption};
+//! Reads, answered.
+ghost use Rattle.std.specs.Prelude.{◌≡◌, ℕ, ◌≤◌, List, Option, None, IfOk, IsErrOf, MatchOption};
 ghost use Rattle.std.specs.Option.{option_map_or};
 ghost use Rattle.std.specs.FinMap as finite;
 ghost use Rattle.object_model.specs.declared.op.Refusal.TheVariants.{NoAttr};
 ghost use Rattle.object_model.specs.declared.command.Answer.TheVariants as answer;
 ghost use Rattle.block_device.specs.Prelude.{Rose, Disk};
-ghost use Rattle.object_model.specs.declared.command.Command.TheVariants as ask;
-ghost use Rattle.object_model.specs.Prelude.{object_limit};
-ghost use Rattle.onode_state.specs.Objects.{AreRowsOfAStore};
+ghost use Rattle.object_model.specs.declared.command.Read.TheVariants as reads;
+ghost use Rattle.object_rows.specs.Stores.{AreRowsOfAStore};
 ghost use Rattle.unit_fields.specs.Prelude.{IsName, IsCollName};
 ghost use Rattle.row_format.specs.Prelude.{coll_key, onode_key};
-ghost use Rattle.store_image.specs.Prelude.{HasKey};
-ghost use Rattle.read_facts.specs.Prelude.{IsHeldAt, IsRefusedBy, IsKnownRead, HasReadNames, IsAnswerOf};
+ghost use Rattle.store_image.specs.Prelude.{HasKey, HasObject};
+ghost use Rattle.read_facts.specs.Prelude.{IsHeldAt, HasReadNames, IsAnswerOf};
 ghost use Rattle.write_buffers.specs.Prelude.{memory_in};
-ghost use Rattle.object_reader.specs.Missing.{IsCollMissing, IsObjectMissing, HasObject};
+ghost use Rattle.object_reader.specs.Missing.{IsCollMissing, IsObjectMissing};
 ghost use Rattle.object_reader.specs.Readable.{IsReadable};
 ghost use Rattle.object_reader.specs.PartFails.{IsCsumOf};
 ghost use Rattle.object_reader.specs.ToRead.{ReadNeedsDevice};
 
 use crate::fail::ReadFail;
-use crate::names::object_names;
 use crate::reading::{read_range, sum};
 use crate::values::row_bytes;
 use block_device::Device;
 use byte_maps::{Bytes, Items};
 use meta_rows::RowTable;
-use object_model::{Answer, Command, Refusal, ends_too_far};
+use object_model::{Answer, Read, Refusal, ends_too_far};
+use object_rows::object_names;
 use onode_codec::{attr_key, coll_key, header_key, omap_key, onode_key};
-use onode_state::{coll_name_is_one, name_is_one, object_pages, object_size};
+use onode_state::{find_object, object_size};
 use page_sources::PartFail;
 use std::alloc::{AllocError, Global};
 use unit_fields::{CollName, Name, Width};
 use write_buffers::WriteBuffers;
 
-/// The answer to a command that reads, by the rows of a store, the bytes of units that are in memory and the device that holds the others: a
+/// The answer to a read, by the rows of a store, the bytes of units that are in memory and the device that holds the others: a
 /// refusal, what it asks for, or the first of the units that must be read of the device whose bytes have another checksum than the one that is
 /// kept. The kernel calls it, with the submitted rows.
 pub fn answer<D: Device>(
@@ -42,19 +41,18 @@ pub fn answer<D: Device>(
     buffers: &WriteBuffers,
     width: Width,
     rows: &RowTable,
-    command: &Command,
+    read: &Read,
 ) -> Result<Answer, ReadFail>
     requires readable { IsReadable width (memory_in buffers.now) rows.now.rows (D.disk device.old) }
-    requires known { IsKnownRead command.now }
-    ensures names { HasReadNames command.now }
-    ensures ok { IfOk result (IsAnswerOf width (memory_in buffers.now) (IsHeldAt (D.disk device.old)) rows.now.rows command.now) }
-    ensures fault { IsErrOf result ReadFail.Fault → ReadNeedsDevice width (memory_in buffers.now) rows.now.rows command.now }
+    ensures names { HasReadNames read.now }
+    ensures ok { IfOk result (IsAnswerOf width (memory_in buffers.now) (IsHeldAt (D.disk device.old)) rows.now.rows read.now) }
+    ensures fault { IsErrOf result ReadFail.Fault → ReadNeedsDevice width (memory_in buffers.now) rows.now.rows read.now }
     ensures same { D.disk device.new ≡ D.disk device.old }
     ensures later { D.faults device.old ≤ D.faults device.new }
     ensures cause { IsErrOf result ReadFail.Fault → Rose (D.faults device.old) (D.faults device.new) }
 {
-    match command {
-        Command::Read {
+    match read {
+        Read::Bytes {
             coll,
             object,
             off,
@@ -62,19 +60,14 @@ pub fn answer<D: Device>(
         } => answer_read(
             alloc, device, buffers, width, rows, coll, object, *off, *len,
         ),
-        Command::Sum { coll, object } => answer_sum(
-            alloc, device, buffers, width, rows, coll, object,
-        ),
-        Command::Stat { coll, object } => Ok(answer_stat(alloc, rows, coll, object)?),
-        Command::GetAttr { coll, object, name } => {
+        Read::Sum { coll, object } => answer_sum(alloc, device, buffers, width, rows, coll, object),
+        Read::Stat { coll, object } => Ok(answer_stat(alloc, rows, coll, object)?),
+        Read::GetAttr { coll, object, name } => {
             Ok(answer_attr(alloc, rows, coll, object, name)?)
         }
-        Command::OmapGet { coll, object, key } => {
-            Ok(answer_pair(alloc, rows, coll, object, key)?)
-        }
-        Command::OmapHeader { coll, object } => Ok(answer_header(alloc, rows, coll, object)?),
-        Command::List { coll } => Ok(answer_list(alloc, rows, coll)?),
-        _ => unreachable!(),
+        Read::OmapGet { coll, object, key } => { Ok(answer_pair(alloc, rows, coll, object, key)?) }
+        Read::OmapHeader { coll, object } => Ok(answer_header(alloc, rows, coll, object)?),
+        Read::List { coll } => Ok(answer_list(alloc, rows, coll)?),
     }
 }
 
@@ -90,7 +83,8 @@ fn coll_refusal(
     rows: &RowTable,
     coll: &CollName,
 ) -> Result<Option<Refusal>, AllocError>
-    ensures { IfOk result (λ refusal. MatchOption refusal (HasKey rows.now.rows (coll_key coll.now)) (IsCollMissing rows.now.rows coll.now)) }
+    ensures coll { IsCollName coll.now }
+    ensures refusal { IfOk result (λ refusal. MatchOption refusal (HasKey rows.now.rows (coll_key coll.now)) (IsCollMissing rows.now.rows coll.now)) }
 {
     let key = coll_key(alloc, coll)?;
     if has_row(rows, &key) {
@@ -110,38 +104,25 @@ fn object_refusal(
     ensures refusal { IfOk result (λ refusal. MatchOption refusal (HasObject rows.now.rows coll.now object.now)
         (IsObjectMissing rows.now.rows coll.now object.now)) }
 {
-    coll_name_is_one(coll);
-    name_is_one(object);
+    let key = onode_key(alloc, coll, object)?;
     if let Some(refusal) = coll_refusal(alloc, rows, coll)? {
         return Ok(Some(refusal));
     }
-    let key = onode_key(alloc, coll, object)?;
     if has_row(rows, &key) {
         return Ok(None);
     }
     Ok(Some(Refusal::NoObject))
 }
 
-// The refusal of a read of a range.
-fn range_refusal(
-    alloc: Global,
-    rows: &RowTable,
-    coll: &CollName,
-    object: &Name,
-    off: u64,
-    len: u64,
-) -> Result<Option<Refusal>, AllocError>
-    ensures names { IsCollName coll.now × IsName object.now }
-    ensures refusal { IfOk result (λ refusal. MatchOption refusal (HasObject rows.now.rows coll.now object.now × (off + len ≤ object_limit))
-        (IsRefusedBy rows.now.rows (ask.Read coll.now object.now off len))) }
+// The refusal of what is done with an object of a collection that has no onode.
+fn missing_refusal(alloc: Global, rows: &RowTable, coll: &CollName) -> Result<Refusal, AllocError>
+    ensures { IfOk result (λ refusal. (object : List ℕ) → IsName object → finite.get rows.now.rows (onode_key coll.now object) ≡ None
+        → IsObjectMissing rows.now.rows coll.now object refusal) }
 {
-    if let Some(refusal) = object_refusal(alloc, rows, coll, object)? {
-        return Ok(Some(refusal));
+    match coll_refusal(alloc, rows, coll)? {
+        Some(refusal) => Ok(refusal),
+        None => Ok(Refusal::NoObject),
     }
-    if ends_too_far(off, len) {
-        return Ok(Some(Refusal::BadRange));
-    }
-    Ok(None)
 }
 
 // What a failed read of pages answers: the bad unit, if there is one.
@@ -173,18 +154,20 @@ fn answer_read<D: Device>(
 ) -> Result<Answer, ReadFail>
     requires readable { IsReadable width (memory_in buffers.now) rows.now.rows (D.disk device.old) }
     ensures names { IsCollName coll.now × IsName object.now }
-    ensures ok { IfOk result (IsAnswerOf width (memory_in buffers.now) (IsHeldAt (D.disk device.old)) rows.now.rows (ask.Read coll.now object.now off len)) }
-    ensures fault { IsErrOf result ReadFail.Fault → ReadNeedsDevice width (memory_in buffers.now) rows.now.rows (ask.Read coll.now object.now off len) }
+    ensures ok { IfOk result (IsAnswerOf width (memory_in buffers.now) (IsHeldAt (D.disk device.old)) rows.now.rows (reads.Bytes coll.now object.now off len)) }
+    ensures fault { IsErrOf result ReadFail.Fault → ReadNeedsDevice width (memory_in buffers.now) rows.now.rows (reads.Bytes coll.now object.now off len) }
     ensures same { D.disk device.new ≡ D.disk device.old }
     ensures later { D.faults device.old ≤ D.faults device.new }
     ensures cause { IsErrOf result ReadFail.Fault → Rose (D.faults device.old) (D.faults device.new) }
 {
-    if let Some(refusal) = range_refusal(alloc, rows, coll, object, off, len)? {
-        return Ok(Answer::Refused(refusal));
+    let Some(mut found) = find_object(alloc, width, rows, coll, object)? else {
+        return Ok(Answer::Refused(missing_refusal(alloc, rows, coll)?));
+    };
+    if ends_too_far(off, len) {
+        return Ok(Answer::Refused(Refusal::BadRange));
     }
-    let size = object_size(alloc, rows, coll, object)?;
-    let mut pages = object_pages(alloc, width, rows, coll, object)?;
-    match read_range(alloc, device, buffers, &mut pages, size, off, len) {
+    let size = found.size;
+    match read_range(alloc, device, buffers, &mut found.pages, size, off, len) {
         Ok(bytes) => Ok(Answer::Bytes(Bytes::from_vec(bytes))),
         Err(why) => csum_answer(why),
     }
@@ -201,18 +184,17 @@ fn answer_sum<D: Device>(
 ) -> Result<Answer, ReadFail>
     requires readable { IsReadable width (memory_in buffers.now) rows.now.rows (D.disk device.old) }
     ensures names { IsCollName coll.now × IsName object.now }
-    ensures ok { IfOk result (IsAnswerOf width (memory_in buffers.now) (IsHeldAt (D.disk device.old)) rows.now.rows (ask.Sum coll.now object.now)) }
-    ensures fault { IsErrOf result ReadFail.Fault → ReadNeedsDevice width (memory_in buffers.now) rows.now.rows (ask.Sum coll.now object.now) }
+    ensures ok { IfOk result (IsAnswerOf width (memory_in buffers.now) (IsHeldAt (D.disk device.old)) rows.now.rows (reads.Sum coll.now object.now)) }
+    ensures fault { IsErrOf result ReadFail.Fault → ReadNeedsDevice width (memory_in buffers.now) rows.now.rows (reads.Sum coll.now object.now) }
     ensures same { D.disk device.new ≡ D.disk device.old }
     ensures later { D.faults device.old ≤ D.faults device.new }
     ensures cause { IsErrOf result ReadFail.Fault → Rose (D.faults device.old) (D.faults device.new) }
 {
-    if let Some(refusal) = object_refusal(alloc, rows, coll, object)? {
-        return Ok(Answer::Refused(refusal));
-    }
-    let size = object_size(alloc, rows, coll, object)?;
-    let mut pages = object_pages(alloc, width, rows, coll, object)?;
-    match sum(alloc, device, buffers, &mut pages, size) {
+    let Some(mut found) = find_object(alloc, width, rows, coll, object)? else {
+        return Ok(Answer::Refused(missing_refusal(alloc, rows, coll)?));
+    };
+    let size = found.size;
+    match sum(alloc, device, buffers, &mut found.pages, size) {
         Ok(crc) => Ok(Answer::Sum { size, crc }),
         Err(why) => csum_answer(why),
     }
@@ -227,12 +209,15 @@ fn answer_stat(
     requires { AreRowsOfAStore rows.now.rows }
     ensures names { IsCollName coll.now × IsName object.now }
     ensures ok { IfOk result (λ a. (width : Width) (memory : ℕ → Option (List ℕ)) (d : Disk)
-        → IsAnswerOf width memory (IsHeldAt d) rows.now.rows (ask.Stat coll.now object.now) a) }
+        → IsAnswerOf width memory (IsHeldAt d) rows.now.rows (reads.Stat coll.now object.now) a) }
 {
     if let Some(refusal) = object_refusal(alloc, rows, coll, object)? {
         return Ok(Answer::Refused(refusal));
     }
-    Ok(Answer::Size(object_size(alloc, rows, coll, object)?))
+    match object_size(alloc, rows, coll, object)? {
+        Some(size) => Ok(Answer::Size(size)),
+        None => unreachable!(),
+    }
 }
 
 // The value that stands under a key, or that there is none.
@@ -254,13 +239,12 @@ fn answer_attr(
 ) -> Result<Answer, AllocError>
     ensures names { IsCollName coll.now × IsName object.now × IsName name.now }
     ensures ok { IfOk result (λ a. (width : Width) (memory : ℕ → Option (List ℕ)) (d : Disk)
-        → IsAnswerOf width memory (IsHeldAt d) rows.now.rows (ask.GetAttr coll.now object.now name.now) a) }
+        → IsAnswerOf width memory (IsHeldAt d) rows.now.rows (reads.GetAttr coll.now object.now name.now) a) }
 {
-    name_is_one(name);
+    let key = attr_key(alloc, coll, object, name)?;
     if let Some(refusal) = object_refusal(alloc, rows, coll, object)? {
         return Ok(Answer::Refused(refusal));
     }
-    let key = attr_key(alloc, coll, object, name)?;
     value_answer(alloc, rows, &key)
 }
 
@@ -273,13 +257,12 @@ fn answer_pair(
 ) -> Result<Answer, AllocError>
     ensures names { IsCollName coll.now × IsName object.now × IsName key.now }
     ensures ok { IfOk result (λ a. (width : Width) (memory : ℕ → Option (List ℕ)) (d : Disk)
-        → IsAnswerOf width memory (IsHeldAt d) rows.now.rows (ask.OmapGet coll.now object.now key.now) a) }
+        → IsAnswerOf width memory (IsHeldAt d) rows.now.rows (reads.OmapGet coll.now object.now key.now) a) }
 {
-    name_is_one(key);
+    let row = omap_key(alloc, coll, object, key)?;
     if let Some(refusal) = object_refusal(alloc, rows, coll, object)? {
         return Ok(Answer::Refused(refusal));
     }
-    let row = omap_key(alloc, coll, object, key)?;
     value_answer(alloc, rows, &row)
 }
 
@@ -291,7 +274,7 @@ fn answer_header(
 ) -> Result<Answer, AllocError>
     ensures names { IsCollName coll.now × IsName object.now }
     ensures ok { IfOk result (λ a. (width : Width) (memory : ℕ → Option (List ℕ)) (d : Disk)
-        → IsAnswerOf width memory (IsHeldAt d) rows.now.rows (ask.OmapHeader coll.now object.now) a) }
+        → IsAnswerOf width memory (IsHeldAt d) rows.now.rows (reads.OmapHeader coll.now object.now) a) }
 {
     if let Some(refusal) = object_refusal(alloc, rows, coll, object)? {
         return Ok(Answer::Refused(refusal));
@@ -304,9 +287,8 @@ fn answer_list(alloc: Global, rows: &RowTable, coll: &CollName) -> Result<Answer
     requires { AreRowsOfAStore rows.now.rows }
     ensures names { IsCollName coll.now }
     ensures ok { IfOk result (λ a. (width : Width) (memory : ℕ → Option (List ℕ)) (d : Disk)
-        → IsAnswerOf width memory (IsHeldAt d) rows.now.rows (ask.List coll.now) a) }
+        → IsAnswerOf width memory (IsHeldAt d) rows.now.rows (reads.List coll.now) a) }
 {
-    coll_name_is_one(coll);
     if let Some(refusal) = coll_refusal(alloc, rows, coll)? {
         return Ok(Answer::Refused(refusal));
     }

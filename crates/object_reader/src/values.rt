@@ -1,36 +1,19 @@
 //! The values of an object: its attributes, the header of its omap and the pairs of its omap.
-ghost use Rattle.std.specs.Prelude.{◌≡◌, ◌++◌, ◌∷◌, Some, IfOk, length, map, drop};
+ghost use Rattle.std.specs.Prelude.{◌≡◌, Some, IfOk, length, map, drop};
 ghost use Rattle.std.specs.List.{AllByRecursion};
 ghost use Rattle.unit_fields.specs.Prelude.{IsName};
 ghost use Rattle.meta_rows.specs.Prelude.{row, rows_from_to};
 ghost use Rattle.row_format.specs.Prelude.{attr_key, omap_key};
-ghost use Rattle.onode_state.specs.Objects.{AreRowsOfAStore};
+ghost use Rattle.object_rows.specs.Stores.{AreRowsOfAStore};
 ghost use Rattle.read_facts.specs.Prelude.{AreValues};
 ghost use Rattle.object_reader.specs.ValueRows.{value_behind, IsNamedBehind};
 
 use byte_maps::{Bytes, Duplicate, Items};
 use meta_rows::RowTable;
-use onode_state::{coll_name_is_one, name_is_one};
+use object_rows::{ValueKind, pairs_end, pairs_first, values_end, values_first};
 use read_facts::ValueView;
 use std::alloc::{AllocError, Global};
 use unit_fields::{CollName, Name};
-
-// The first byte of the keys of an object's attributes, and of those of its omap.
-const ATTRIBUTES: u8 = b'A';
-
-const OMAP: u8 = b'M';
-
-// It ends a name within a key. No name has it.
-const END: u8 = 0;
-
-// The least byte above it.
-const BEHIND_END: u8 = 1;
-
-// It stands before the key of a pair of the omap.
-const PAIR: u8 = b'.';
-
-// The least byte above it.
-const BEHIND_PAIR: u8 = b'/';
 
 /// The bytes that stand under a key, if any.
 pub fn row_bytes(alloc: Global, rows: &RowTable, key: &Bytes) -> Result<Bytes, AllocError>
@@ -40,25 +23,6 @@ pub fn row_bytes(alloc: Global, rows: &RowTable, key: &Bytes) -> Result<Bytes, A
         Some(value) => Bytes::from_slice(alloc, value.as_slice()),
         None => Ok(Bytes::new(alloc)),
     }
-}
-
-// The names of a collection and of an object in it behind a byte for the kind, and what stands behind them.
-fn front(
-    alloc: Global,
-    kind: u8,
-    coll: &CollName,
-    object: &Name,
-    rest: &[u8],
-) -> Result<Bytes, AllocError>
-    ensures { IfOk result (λ key. key ≡ kind ∷ (coll.now ++ 0 ∷ (object.now ++ rest.now))) }
-{
-    let mut key = Vec::new(alloc);
-    key.push(kind)?;
-    key.extend_from_slice(coll.as_slice())?;
-    key.push(END)?;
-    key.extend_from_slice(object.as_slice())?;
-    key.extend_from_slice(rest)?;
-    Ok(Bytes::from_vec(key))
 }
 
 // The value of a row, whose name stands behind so many bytes of the key.
@@ -103,10 +67,8 @@ pub fn attributes_of(
     requires { AreRowsOfAStore rows.now.rows }
     ensures { IfOk result (AreValues (attr_key coll.now object.now) rows.now.rows) }
 {
-    coll_name_is_one(coll);
-    name_is_one(object);
-    let first = front(alloc, ATTRIBUTES, coll, object, &[END])?;
-    let end = front(alloc, ATTRIBUTES, coll, object, &[BEHIND_END])?;
+    let first = values_first(alloc, ValueKind::Attributes, coll, object)?;
+    let end = values_end(alloc, ValueKind::Attributes, coll, object)?;
     values_between(alloc, rows, &first, &end)
 }
 
@@ -120,9 +82,7 @@ pub fn pairs_of(
     requires { AreRowsOfAStore rows.now.rows }
     ensures { IfOk result (AreValues (omap_key coll.now object.now) rows.now.rows) }
 {
-    coll_name_is_one(coll);
-    name_is_one(object);
-    let first = front(alloc, OMAP, coll, object, &[END, PAIR])?;
-    let end = front(alloc, OMAP, coll, object, &[END, BEHIND_PAIR])?;
+    let first = pairs_first(alloc, coll, object)?;
+    let end = pairs_end(alloc, coll, object)?;
     values_between(alloc, rows, &first, &end)
 }

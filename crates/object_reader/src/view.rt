@@ -8,13 +8,13 @@ ghost use Rattle.object_reader.specs.PartFails.{IsSumOf};
 ghost use Rattle.object_reader.specs.Readable.{IsReadable, IsNextView};
 
 use crate::fail::ReadFail;
-use crate::names::next_name;
 use crate::reading::sum;
 use crate::values::{attributes_of, pairs_of, row_bytes};
 use block_device::Device;
 use meta_rows::RowTable;
+use object_rows::next_name;
 use onode_codec::header_key;
-use onode_state::{object_pages, object_size};
+use onode_state::find_object;
 use page_sources::PartFail;
 use read_facts::{BadSum, ObjectView};
 use std::alloc::Global;
@@ -52,9 +52,11 @@ fn view_of<D: Device>(
     ensures later { D.faults device.old ≤ D.faults device.new }
     ensures cause { IsErrOf result ReadFail.Fault → Rose (D.faults device.old) (D.faults device.new) }
 {
-    let size = object_size(alloc, rows, coll, &name)?;
-    let mut pages = object_pages(alloc, width, rows, coll, &name)?;
-    let sum = sum_or_bad(sum(alloc, device, buffers, &mut pages, size))?;
+    let Some(mut found) = find_object(alloc, width, rows, coll, &name)? else {
+        unreachable!()
+    };
+    let size = found.size;
+    let sum = sum_or_bad(sum(alloc, device, buffers, &mut found.pages, size))?;
     let attrs = attributes_of(alloc, rows, coll, &name)?;
     let header = row_bytes(alloc, rows, &header_key(alloc, coll, &name)?)?;
     let omap = pairs_of(alloc, rows, coll, &name)?;

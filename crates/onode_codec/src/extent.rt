@@ -71,10 +71,10 @@ impl Head {
     pub fn push(&self, out: &mut Vec<u8>) -> Result<(), AllocError>
         ensures { OnOk result (out.new.items ≡ out.old.items ++ extent_head self.now) }
     {
-        push_u32_le(out, self.first)?;
-        push_u16_le(out, self.count)?;
-        out.push(PRIVATE)?;
-        push_u32_le(out, self.unit.number())
+        let [a, b, c, d] = self.first.to_le_bytes();
+        let [low, high] = self.count.to_le_bytes();
+        let [p, q, r, s] = self.unit.number().to_le_bytes();
+        out.extend_from_slice(&[a, b, c, d, low, high, PRIVATE, p, q, r, s])
     }
 }
 

@@ -6,7 +6,7 @@ ghost use Rattle.std.specs.Prelude.{◌≡◌, ◌+◌, ◌<◌, ◌≤◌, [], 
 ghost use Rattle.arrayvec.specs.ArrayVec.{array_vec_len};
 ghost use Rattle.std.specs.Int.{w64, to_be_bytes};
 ghost use Rattle.std.specs.Option.{option_copied};
-ghost use Rattle.unit_fields.specs.Prelude.{IsName};
+ghost use Rattle.unit_fields.specs.Prelude.{IsName, IsCollName};
 ghost use Rattle.meta_rows.specs.Prelude.{IsKey};
 ghost use Rattle.row_format.specs.Keys.{
   object_key,
@@ -27,20 +27,24 @@ use byte_maps::Bytes;
 use std::alloc::{AllocError, Global};
 use unit_fields::{CollName, Name};
 
-// The first byte of a key: the kind of its row.
-const COLLECTION: u8 = b'C';
-
-const OBJECT: u8 = b'O';
-
-const ATTRIBUTE: u8 = b'A';
-
-const OMAP: u8 = b'M';
-
-const DEFERRED: u8 = b'L';
-
-const SHARED: u8 = b'X';
-
-const BITMAP: u8 = b'b';
+/// The kind of a row, by the first byte of its key.
+#[derive(Clone, Copy)]
+pub enum RowKind {
+    /// A collection.
+    Collection = b'C' as isize,
+    /// An object's onode, and the shards of its extents.
+    Object = b'O' as isize,
+    /// An attribute.
+    Attribute = b'A' as isize,
+    /// The header of an omap, and its pairs.
+    Omap = b'M' as isize,
+    /// A deferred write.
+    Deferred = b'L' as isize,
+    /// A shared blob.
+    Shared = b'X' as isize,
+    /// The bits of 128 units of the freelist.
+    Bitmap = b'b' as isize,
+}
 
 /// The end of the keys of collections: they are those from `colls_first` of none on that are below it.
 pub const COLLS_END: &[u8] = b"D";
@@ -89,6 +93,7 @@ fn object_key(
     requires { length rest.now ≤ 256 }
     ensures key { IfOk result (λ key. key ≡ object_key kind coll.now object.now rest.now) }
     ensures size { IfOk result IsKey }
+    ensures names { IsCollName coll.now × IsName object.now }
 {
     let coll = coll.as_slice();
     let object = object.as_slice();
@@ -115,9 +120,10 @@ fn of_number(alloc: Global, kind: u8, number: u64) -> Result<Bytes, AllocError>
 pub fn coll_key(alloc: Global, coll: &CollName) -> Result<Bytes, AllocError>
     ensures key { IfOk result (λ key. key ≡ coll_key coll.now) }
     ensures size { IfOk result IsKey }
+    ensures coll { IsCollName coll.now }
 {
     let mut key = KeyBuffer::new();
-    key.push(COLLECTION);
+    key.push(RowKind::Collection as u8);
     push_bytes(&mut key, coll.as_slice());
     Bytes::from_slice(alloc, key.as_slice())
 }
@@ -127,7 +133,7 @@ pub fn colls_first(alloc: Global, after: Option<&CollName>) -> Result<Bytes, All
     ensures { IfOk result (λ key. key ≡ colls_first (option_copied after.entry)) }
 {
     let mut key = KeyBuffer::new();
-    key.push(COLLECTION);
+    key.push(RowKind::Collection as u8);
     if let Some(coll) = after {
         push_name(&mut key, coll.as_slice());
     }
@@ -138,8 +144,9 @@ pub fn colls_first(alloc: Global, after: Option<&CollName>) -> Result<Bytes, All
 pub fn onode_key(alloc: Global, coll: &CollName, object: &Name) -> Result<Bytes, AllocError>
     ensures key { IfOk result (λ key. key ≡ onode_key coll.now object.now) }
     ensures size { IfOk result IsKey }
+    ensures names { IsCollName coll.now × IsName object.now }
 {
-    object_key(alloc, OBJECT, coll, object, b"o")
+    object_key(alloc, RowKind::Object as u8, coll, object, b"o")
 }
 
 /// The key of the shard of an object's extents that begins at this page.
@@ -151,26 +158,29 @@ pub fn shard_key(
 ) -> Result<Bytes, AllocError>
     ensures key { IfOk result (λ key. key ≡ shard_key coll.now object.now page) }
     ensures size { IfOk result IsKey }
+    ensures names { IsCollName coll.now × IsName object.now }
 {
     let mut rest = [b'o', 0, 0, 0, 0, b'x'];
     rest[1..5].copy_from_slice(&page.to_be_bytes());
-    object_key(alloc, OBJECT, coll, object, &rest)
+    object_key(alloc, RowKind::Object as u8, coll, object, &rest)
 }
 
 /// The end of the keys of an object's shards: they are those from `shard_key` of page 0 on that are below it.
 pub fn shards_end(alloc: Global, coll: &CollName, object: &Name) -> Result<Bytes, AllocError>
     ensures key { IfOk result (λ key. key ≡ object_key 0x4f coll.now object.now (0x70 ∷ [])) }
     ensures size { IfOk result IsKey }
+    ensures names { IsCollName coll.now × IsName object.now }
 {
-    object_key(alloc, OBJECT, coll, object, b"p")
+    object_key(alloc, RowKind::Object as u8, coll, object, b"p")
 }
 
 // The front of the keys of a collection's objects, with this byte behind the collection's name.
 fn objects_front(alloc: Global, coll: &CollName, behind: u8) -> Result<Bytes, AllocError>
-    ensures { IfOk result (λ key. key ≡ 0x4f ∷ (coll.now ++ behind ∷ [])) }
+    ensures key { IfOk result (λ key. key ≡ 0x4f ∷ (coll.now ++ behind ∷ [])) }
+    ensures coll { IsCollName coll.now }
 {
     let mut key = KeyBuffer::new();
-    key.push(OBJECT);
+    key.push(RowKind::Object as u8);
     push_bytes(&mut key, coll.as_slice());
     key.push(behind);
     Bytes::from_slice(alloc, key.as_slice())
@@ -196,7 +206,8 @@ pub fn objects_first(
 
 /// The end of the keys of a collection's objects.
 pub fn objects_end(alloc: Global, coll: &CollName) -> Result<Bytes, AllocError>
-    ensures { IfOk result (λ key. key ≡ objects_end coll.now) }
+    ensures key { IfOk result (λ key. key ≡ objects_end coll.now) }
+    ensures coll { IsCollName coll.now }
 {
     objects_front(alloc, coll, BEHIND_END)
 }
@@ -210,16 +221,24 @@ pub fn attr_key(
 ) -> Result<Bytes, AllocError>
     ensures key { IfOk result (λ key. key ≡ attr_key coll.now object.now attr.now) }
     ensures size { IfOk result IsKey }
+    ensures names { IsCollName coll.now × IsName object.now × IsName attr.now }
 {
-    object_key(alloc, ATTRIBUTE, coll, object, attr.as_slice())
+    object_key(
+        alloc,
+        RowKind::Attribute as u8,
+        coll,
+        object,
+        attr.as_slice(),
+    )
 }
 
 /// The key of an object's omap header.
 pub fn header_key(alloc: Global, coll: &CollName, object: &Name) -> Result<Bytes, AllocError>
     ensures key { IfOk result (λ key. key ≡ header_key coll.now object.now) }
     ensures size { IfOk result IsKey }
+    ensures names { IsCollName coll.now × IsName object.now }
 {
-    object_key(alloc, OMAP, coll, object, b"-")
+    object_key(alloc, RowKind::Omap as u8, coll, object, b"-")
 }
 
 /// The key of a pair of an object's omap. It stands behind the key of the omap's header.
@@ -231,11 +250,12 @@ pub fn omap_key(
 ) -> Result<Bytes, AllocError>
     ensures key { IfOk result (λ made. made ≡ omap_key coll.now object.now key.now) }
     ensures size { IfOk result IsKey }
+    ensures names { IsCollName coll.now × IsName object.now × IsName key.now }
 {
     let mut rest = KeyBuffer::new();
     rest.push(b'.');
     push_bytes(&mut rest, key.as_slice());
-    object_key(alloc, OMAP, coll, object, rest.as_slice())
+    object_key(alloc, RowKind::Omap as u8, coll, object, rest.as_slice())
 }
 
 /// The key of a deferred write, by its sequence number.
@@ -243,7 +263,7 @@ pub fn deferred_key(alloc: Global, seq: u64) -> Result<Bytes, AllocError>
     ensures key { IfOk result (λ key. key ≡ deferred_key seq) }
     ensures size { IfOk result IsKey }
 {
-    of_number(alloc, DEFERRED, seq)
+    of_number(alloc, RowKind::Deferred as u8, seq)
 }
 
 /// The key of a shared blob, by its number (Ceph's sbid).
@@ -251,7 +271,7 @@ pub fn shared_key(alloc: Global, sbid: u64) -> Result<Bytes, AllocError>
     ensures key { IfOk result (λ key. key ≡ shared_key sbid) }
     ensures size { IfOk result IsKey }
 {
-    of_number(alloc, SHARED, sbid)
+    of_number(alloc, RowKind::Shared as u8, sbid)
 }
 
 /// The key of a row of the freelist: the bits of the 128 units from 128 times `row` on.
@@ -259,7 +279,7 @@ pub fn bitmap_key(alloc: Global, row: u32) -> Result<Bytes, AllocError>
     ensures key { IfOk result (λ key. key ≡ bitmap_key row) }
     ensures size { IfOk result IsKey }
 {
-    let mut key = [BITMAP, 0, 0, 0, 0];
+    let mut key = [RowKind::Bitmap as u8, 0, 0, 0, 0];
     key[1..].copy_from_slice(&row.to_be_bytes());
     Bytes::from_slice(alloc, &key)
 }

@@ -7,14 +7,14 @@ use Rattle.unit_fields.specs.declared.width.Width.{Width}
 use Rattle.row_format.specs.Prelude.{object_key, shard_key, Extent, own, extent_bytes, place_of, shard}
 use Rattle.meta_log.specs.Prelude.{width_of}
 use Rattle.store_image.proofs.Prelude.{in_place}
-use Rattle.draft_rows.specs.Prelude.{AreShardsOf, extents_in}
-use Rattle.draft_rows.proofs.Shards.{by_shards_ascend, by_shards_pages}
+use Rattle.object_rows.specs.Shards.{AreShardsOf, extents_in}
+use Rattle.object_rows.proofs.Shards.{by_shards_ascend, by_shards_pages}
 use Rattle.page_lookup.specs.Prelude.{rows_read, place_found, HasUnit, FindPagesOf}
-use Rattle.draft_rows.proofs.GoodPages.{good_page}
+use Rattle.object_rows.proofs.GoodPages.{good_page}
 use Rattle.page_lookup.proofs.Reading.{read_spelled}
 use Rattle.page_lookup.proofs.Finding.{found_is}
 use Rattle.page_lookup.proofs.Rows.{one_row, no_row}
-use Rattle.onode_state.specs.Objects.{AreRowsOfAStore}
+use Rattle.object_rows.specs.Stores.{AreRowsOfAStore}
 use Rattle.onode_state.proofs.ShardRows.{shard_entry, FitsAsShard, IsShardEntry, range_is_shards, range_has_all}
 use Rattle.onode_state.proofs.States.{onode_there}
 

@@ -3,3 +3,4 @@ pub mod ReadShards
 pub mod States
 pub mod FoundPages
 pub mod OnodeRows
+pub mod FoundObjects

@@ -24,10 +24,11 @@ use Rattle.onode_codec.specs.Reading.{SpellsOnode}
 use Rattle.store_image.specs.Prelude.{HasOnode}
 use Rattle.store_image.proofs.Prelude.{in_place}
 use Rattle.blob_map.specs.Prelude.{PageMap, extent_pages, with_pages}
-use Rattle.draft_rows.proofs.Lists.{all_append}
-use Rattle.draft_rows.specs.Prelude.{AreShardsOf, extents_in, first_pages}
+use Rattle.object_rows.proofs.Lists.{all_append}
+use Rattle.object_rows.specs.Shards.{AreShardsOf, extents_in, first_pages}
 use Rattle.extent_shards.specs.Prelude.{IsShardValue, AddsShard}
-use Rattle.onode_state.specs.Objects.{AreRowsOfWidth, HasShards, IsSizeAt, IsStateOf}
+use Rattle.object_rows.specs.Stores.{AreRowsOfWidth}
+use Rattle.onode_state.specs.Objects.{HasShards, IsSizeAt, IsObjectState}
 use Rattle.onode_state.proofs.ShardRows as own
 use Rattle.onode_state.proofs.ShardRows.{IsShardEntry, In, KeysRise, at_in, filtered_all, in_filtered, filtered_rise, sorted_rise, not_less, range_has_all}
 use Rattle.onode_state.proofs.ReadShards.{AreRead, none_read, shards_by_entries, value_in, read_more}
@@ -38,11 +39,11 @@ Entry = List ℕ × List ℕ
 
 -- ---- lists
 
-all_so : (P Q : Entry → Type 0) → ((e : Entry) → P e → Q e) → (es : List Entry) → AllByRecursion P es → AllByRecursion Q es
+pub all_so : (P Q : Entry → Type 0) → ((e : Entry) → P e → Q e) → (es : List Entry) → AllByRecursion P es → AllByRecursion Q es
 all_so P Q f [] all = tt
 all_so P Q f (e ∷ es) all = (f e all.0, all_so P Q f es all.1)
 
-in_all : (P : Entry → Type 0) (es : List Entry) (x : Entry) → AllByRecursion P es → In es x → P x
+pub in_all : (P : Entry → Type 0) (es : List Entry) (x : Entry) → AllByRecursion P es → In es x → P x
 in_all P [] x all there = absurd there
 in_all P (e ∷ es) x all (inl same) = subst P same all.0
 in_all P (e ∷ es) x all (inr later) = in_all P es x all.1 later
@@ -63,14 +64,14 @@ module _ (p : Entry → Bool) where
   passes : (e : Entry) (es : List Entry) → p e ≡ true → filter p (e ∷ es) ≡ e ∷ filter p es
   passes e es is = ap (λ b. cond b (e ∷ filter p es) (filter p es)) is
 
-  fails : (e : Entry) (es : List Entry) → p e ≡ false → filter p (e ∷ es) ≡ filter p es
+  pub fails : (e : Entry) (es : List Entry) → p e ≡ false → filter p (e ∷ es) ≡ filter p es
   fails e es is = ap (λ b. cond b (e ∷ filter p es) (filter p es)) is
 
   none_pass : (es : List Entry) → AllByRecursion (λ e. p e ≡ false) es → filter p es ≡ []
   none_pass [] all = refl
   none_pass (e ∷ es) all = fails e es all.0 ∙ none_pass es all.1
 
-  filtered_twice : (q : Entry → Bool) → ((e : Entry) → p e ≡ true → q e ≡ true) → (es : List Entry) → filter p (filter q es) ≡ filter p es
+  pub filtered_twice : (q : Entry → Bool) → ((e : Entry) → p e ≡ true → q e ≡ true) → (es : List Entry) → filter p (filter q es) ≡ filter p es
   filtered_twice q f [] = refl
   filtered_twice q f (e ∷ es) = elim (cases_Bool (p e)) [
     | inl t ↦ ap (filter p) (passed q e es (f e t)) ∙ passes e (filter q es) t ∙ ap (λ l. e ∷ l) (filtered_twice q f es) ∙ sym (passes e es t)
@@ -173,10 +174,10 @@ module _ (w : Width) (rows : Rows) (c o : List ℕ) (coll : IsCollName c) (name 
     | inr its ↦ its
   ]
 
-  between : (e : Entry) → IsShardEntry w c o e → is_between e.0 ≡ true
+  pub between : (e : Entry) → IsShardEntry w c o e → is_between e.0 ≡ true
   between e s = ap (λ (x : Entry). is_between x.0) s.is ∙ own.shard_between w c o coll name s.page s.fits.page_below
 
-  onode_outside : is_between onode ≡ false
+  pub onode_outside : is_between onode ≡ false
   onode_outside = first_less (byte_order onode (own.shards_first w c o)) (is_lt (byte_order onode shards_end)) (onode_before c o coll name 0)
 
   shard_apart : (e : Entry) → IsShardEntry w c o e → e.0 ≢ onode
@@ -220,7 +221,7 @@ module _ (w : Width) (rows : Rows) (c o : List ℕ) (coll : IsCollName c) (name 
 
   -- ---- the values
 
-  stands_at : (e : Entry) → StandsIn e → In (entries rows) e
+  pub stands_at : (e : Entry) → StandsIn e → In (entries rows) e
   stands_at e there =
       let at = (own.entries_are w c o coll name sup rows good.store.good good.wide).stands e.0 e.1 there in
       at_in (entries rows) e at.at at.within at.is
@@ -250,7 +251,7 @@ module _ (w : Width) (rows : Rows) (c o : List ℕ) (coll : IsCollName c) (name 
 
   -- ---- all of its rows
 
-  onode_ends : byte_order onode shards_end ≡ Less
+  pub onode_ends : byte_order onode shards_end ≡ Less
   onode_ends = (λ i. byte_order (sym (own.fronted w c o (0x6f ∷ [])) i) (sym (own.fronted w c o (0x70 ∷ [])) i))
       ∙ after_front (own.names_front w c o) (0x6f ∷ []) (0x70 ∷ [])
 
@@ -337,19 +338,19 @@ module _ (w : Width) (rows : Rows) (c o : List ℕ) (coll : IsCollName c) (name 
       let gone = ap is_some none in absurd cc
 
   pub state_is : (size : Option ℕ) (firsts : List ℕ) (pages : PageMap) → IsSeen w rows c o onwards size firsts pages
-      → IsStateOf w rows c o size pages firsts
+      → IsObjectState w rows c o size pages firsts
   state_is size firsts pages seen =
       let read = subst (λ es. AreRead w c o es firsts pages) range_onwards seen.read in
       let has = subst (λ v. HasShards v rows c o firsts pages) (sym good.wide) (has_shards firsts pages read) in
-      subst (λ v. IsStateOf v rows c o size pages firsts) good.wide (by size (size_at size seen.size_is) has)
+      subst (λ v. IsObjectState v rows c o size pages firsts) good.wide (by size (size_at size seen.size_is) has)
     where
       by : (size : Option ℕ) → IsSizeAt rows c o size → HasShards (width_of sup) rows c o firsts pages
-          → IsStateOf (width_of sup) rows c o size pages firsts
+          → IsObjectState (width_of sup) rows c o size pages firsts
       by (Some n) at has = state_there rows c o coll name good.store firsts pages has (Some n) at refl
       by None at has =
           let none = no_shards at has.shards has.are in
           let no_firsts : firsts ≡ [] = has.firsts_are ∙ ap first_pages none in
           let no_pages : pages ≡ finite.empty = has.pages_are ∙ ap (λ shards. with_pages finite.empty (flat_map extent_pages (extents_in shards))) none in
-          subst (λ fs. IsStateOf (width_of sup) rows c o None pages fs) (sym no_firsts)
-          (subst (λ ps. IsStateOf (width_of sup) rows c o None ps []) (sym no_pages)
+          subst (λ fs. IsObjectState (width_of sup) rows c o None pages fs) (sym no_firsts)
+          (subst (λ ps. IsObjectState (width_of sup) rows c o None ps []) (sym no_pages)
           (state_missing rows c o coll name good.store None at refl))

@@ -9,8 +9,8 @@ use Rattle.onode_codec.specs.Reading.{SpellExtents}
 use Rattle.onode_codec.proofs.Again.{same_extents}
 use Rattle.blob_map.specs.Prelude.{PageMap, HasNumbers, extent_pages, with_pages}
 use Rattle.blob_map.proofs.Lay.{laid_append}
-use Rattle.draft_rows.specs.Prelude.{extents_in, first_pages}
-use Rattle.draft_rows.proofs.Lists.{all_append}
+use Rattle.object_rows.specs.Shards.{extents_in, first_pages}
+use Rattle.object_rows.proofs.Lists.{all_append}
 use Rattle.extent_shards.specs.Prelude.{IsShardValue, AddsShard}
 use Rattle.onode_state.proofs.ShardRows.{shard_entry, FitsAsShard, IsShardEntry, In}
 

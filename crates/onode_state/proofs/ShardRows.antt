@@ -17,12 +17,12 @@ use Rattle.meta_log.specs.declared.slot.Super.{Super}
 use Rattle.meta_log.specs.Prelude.{width_of}
 use Rattle.unit_fields.specs.Prelude.{IsName, IsCollName}
 use Rattle.unit_fields.specs.declared.width.Width.{Width}
-use Rattle.row_format.specs.Prelude.{object_key, onode_key, shard_key, Extent, extent_bytes, Row, collection, onode, shard, attribute, omap_header, omap_pair, bitmap, row_key, row_value, FitsShard}
-use Rattle.row_format.proofs.Prelude.{same_head, same_place, same_shard, coll_no_object, bitmap_no_object, extents-same}
+use Rattle.row_format.specs.Prelude.{object_key, onode_key, shard_key, Extent, extent_bytes, Row, onode, shard, row_key, row_value, FitsRow, FitsShard}
+use Rattle.row_format.proofs.Prelude.{same_place, same_shard, begins_o, extents-same}
 use Rattle.row_reading.proofs.KeyOrder.{after_front, has_front, lesser_page, onode_before}
 use Rattle.row_reading.proofs.Entries.{AreRows, all_rows, are_rows}
 use Rattle.store_image.specs.Prelude.{HasRow, HasShard, IsGoodRow, NoBadRow}
-use Rattle.draft_rows.specs.Prelude.{Rise, AreShardsOf}
+use Rattle.object_rows.specs.Shards.{ShardsAscend, AreShardsOf}
 
 abbrev Entry : Type 0
 Entry = List ℕ × List ℕ
@@ -113,7 +113,7 @@ not_less Less b h e = absurd cc
 not_less Equal b h e = absurd cc
 not_less Greater b h e = absurd cc
 
-then_less : (r q : Ordering) → (not (is_lt r) && is_lt q) ≡ true → q ≡ Less
+pub then_less : (r q : Ordering) → (not (is_lt r) && is_lt q) ≡ true → q ≡ Less
 then_less Less q h = absurd cc
 then_less Equal Less h = refl
 then_less Equal Equal h = absurd cc
@@ -122,7 +122,7 @@ then_less Greater Less h = refl
 then_less Greater Equal h = absurd cc
 then_less Greater Greater h = absurd cc
 
-both_so : (r q : Ordering) → r ≢ Less → q ≡ Less → (not (is_lt r) && is_lt q) ≡ true
+pub both_so : (r q : Ordering) → r ≢ Less → q ≡ Less → (not (is_lt r) && is_lt q) ≡ true
 both_so Less q apart is = absurd (apart refl)
 both_so Equal q apart is = ap is_lt is
 both_so Greater q apart is = ap is_lt is
@@ -165,24 +165,35 @@ module _ (w : Width) (c o : List ℕ) where
         ∙ after_front names_front (0x6f ∷ to_be_bytes w32 page ++ 0x78 ∷ []) (0x70 ∷ []))
 
     -- a row of one of the object's keys is its onode or a shard
-    row_of : (r : Row) (rows : Rows) → HasRow w rows r → (rest : List ℕ) → row_key r ≡ object_key 0x4f c o rest
-        → (row_key r ≡ onode_key c o) ⊎ IsShardEntry w c o (row_key r, row_value w r)
-    row_of (collection d) rows has rest is = absurd (coll_no_object d c o rest is)
-    row_of (onode d u size) rows has rest is =
-        let same = same_place 0x4f d u c o (0x6f ∷ []) rest has.fits.0 has.fits.1 coll name is in
+    abbrev IsRowOf : Row → Type 0
+    IsRowOf r = (row_key r ≡ onode_key c o) ⊎ IsShardEntry w c o (row_key r, row_value w r)
+
+    of_onode : (d u : List ℕ) (size : ℕ) → FitsRow w (onode d u size) → (rest : List ℕ) → onode_key d u ≡ object_key 0x4f c o rest
+        → IsRowOf (onode d u size)
+    of_onode d u size fits rest is =
+        let same = same_place 0x4f d u c o (0x6f ∷ []) rest fits.0 fits.1 coll name is in
         inl (λ i. onode_key (same.0 i) (same.1 i))
-    row_of (shard d u page es) rows has rest is =
-        let same = same_place 0x4f d u c o (0x6f ∷ to_be_bytes w32 page ++ 0x78 ∷ []) rest has.fits.coll_name has.fits.object_name coll name is in
+
+    of_shard : (d u : List ℕ) (page : ℕ) (es : List Extent) → FitsRow w (shard d u page es) → (rest : List ℕ)
+        → shard_key d u page ≡ object_key 0x4f c o rest → IsRowOf (shard d u page es)
+    of_shard d u page es fits rest is =
+        let same = same_place 0x4f d u c o (0x6f ∷ to_be_bytes w32 page ++ 0x78 ∷ []) rest fits.coll_name fits.object_name coll name is in
         inr (record {
           page = page;
           extents = es;
-          fits = subst (λ x. FitsShard w x o page es) same.0 (subst (λ x. FitsShard w d x page es) same.1 has.fits);
+          fits = subst (λ x. FitsShard w x o page es) same.0 (subst (λ x. FitsShard w d x page es) same.1 fits);
           is = λ i. (shard_key (same.0 i) (same.1 i) page, flat_map (extent_bytes w) es);
         })
-    row_of (attribute d u n value) rows has rest is = absurd (omega (arith, same_head _ _ _ _ is))
-    row_of (omap_header d u value) rows has rest is = absurd (omega (arith, same_head _ _ _ _ is))
-    row_of (omap_pair d u k value) rows has rest is = absurd (omega (arith, same_head _ _ _ _ is))
-    row_of (bitmap r bits) rows has rest is = absurd (bitmap_no_object r c o rest is)
+
+    row_of : (r : Row) (rows : Rows) → HasRow w rows r → (rest : List ℕ) → row_key r ≡ object_key 0x4f c o rest → IsRowOf r
+    row_of r rows has rest is = elim (begins_o w (c ++ 0 ∷ (o ++ 0 ∷ rest)) r has.fits (sym is)) [
+      | inl on ↦
+          let at : r ≡ onode on.0 on.1 on.2 = on.3 in
+          subst IsRowOf (sym at) (of_onode on.0 on.1 on.2 (subst (FitsRow w) at has.fits) rest (sym (ap row_key at) ∙ is))
+      | inr on ↦
+          let at : r ≡ shard on.0 on.1 on.2 on.3 = on.4 in
+          subst IsRowOf (sym at) (of_shard on.0 on.1 on.2 on.3 (subst (FitsRow w) at has.fits) rest (sym (ap row_key at) ∙ is))
+    ]
 
     -- the rows there are shards
     row_between : (r : Row) (rows : Rows) → HasRow w rows r → is_between (row_key r) ≡ true → IsShardEntry w c o (row_key r, row_value w r)
@@ -212,7 +223,7 @@ module _ (w : Width) (c o : List ℕ) where
     later_pages x own (y ∷ ys) fit less =
         (lesser_page c o coll name x.0 y.0 own.page_below fit.0.page_below less.0, later_pages x own ys fit.1 less.1)
 
-    shards_rise : (xs : List (ℕ × List Extent)) → AllByRecursion (FitsAsShard w c o) xs → KeysRise (map (shard_entry w c o) xs) → Rise xs
+    shards_rise : (xs : List (ℕ × List Extent)) → AllByRecursion (FitsAsShard w c o) xs → KeysRise (map (shard_entry w c o) xs) → ShardsAscend xs
     shards_rise [] fit rise = tt
     shards_rise (x ∷ xs) fit rise = (later_pages x fit.0 xs fit.1 rise.0, shards_rise xs fit.1 rise.1)
 

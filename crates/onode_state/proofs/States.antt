@@ -1,5 +1,5 @@
 -- An object as its rows have it, from the rows that are its own.
-use Rattle.std.proofs.Common.{◌≡◌, ℕ, true, false, List, [], ◌∷◌, Option, Some, None, is_some, unwrap_or, refl, sym, ap, subst, ◌∙◌, arith}
+use Rattle.std.proofs.Common.{◌≡◌, ℕ, true, false, List, [], ◌∷◌, Option, Some, None, is_some, refl, sym, ap, subst, ◌∙◌, arith}
 use Rattle.std.specs.List.{AllByRecursion}
 use Rattle.std.specs.FinMap as finite
 use Rattle.meta_rows.specs.Prelude.{Rows}
@@ -11,22 +11,18 @@ use Rattle.onode_codec.proofs.Again.{same_onode as same_size}
 use Rattle.store_image.specs.Prelude.{HasKey, HasOnode}
 use Rattle.store_image.proofs.Prelude.{in_place}
 use Rattle.blob_map.specs.Prelude.{PageMap, HasNumbers}
-use Rattle.draft_rows.specs.Prelude.{AreShards, AreShardsOf, extents_in, first_pages}
-use Rattle.plan_rows.specs.Prelude.{IsMapOf, IsSizeOf, missing, there}
-use Rattle.draft_rows.proofs.LayoutOf.{climb_ascends, keys_there, map_by_shards, onode_under as onode_found}
-use Rattle.draft_rows.proofs.Shards.{shard_under, by_shards_numbers, by_shards_present, first_pages_climb}
-use Rattle.onode_state.specs.Objects.{AreRowsOfAStore}
-use Rattle.onode_state.specs.Objects.{HasShards, IsSizeAt, IsStateOf}
+use Rattle.object_rows.specs.Shards.{AreShards, AreShardsOf, extents_in}
+use Rattle.plan_rows.specs.Prelude.{IsMapOf}
+use Rattle.object_rows.proofs.ByShards.{keys_there, map_by_shards, onode_under as onode_found}
+use Rattle.object_rows.proofs.Shards.{shard_under, by_shards_numbers, by_shards_present, first_pages_climb}
+use Rattle.object_rows.specs.Stores.{AreRowsOfAStore}
+use Rattle.onode_state.specs.Objects.{HasShards, IsSizeAt, IsObjectState}
 
 -- an onode's row, by its value
 pub record OnodeIs (rows : Rows) (c o value : List ℕ) : Type 0 where
   pub size : ℕ
   pub has : HasOnode rows c o size
   pub spelled : SpellsOnode value size
-
-pub size_or_none : (rows : Rows) (c o : List ℕ) (size : Option ℕ) → IsSizeAt rows c o size → IsSizeOf rows c o (unwrap_or size 0)
-size_or_none rows c o None none = missing none
-size_or_none rows c o (Some size) has = there size has
 
 module _ (rows : Rows) (c o : List ℕ) (coll : IsCollName c) (name : IsName o) (store : AreRowsOfAStore rows) where
   pub onode_under : (value : List ℕ) → finite.get rows (onode_key c o) ≡ Some value → OnodeIs rows c o value
@@ -60,7 +56,7 @@ module _ (rows : Rows) (c o : List ℕ) (coll : IsCollName c) (name : IsName o) 
     map_is : IsMapOf (width_of store.sup) rows c o pages
     map_is = subst (IsMapOf (width_of store.sup) rows c o) (sym has.pages_are) (map_by_shards store.sup rows c o store.good has.shards has.are)
 
-    state_of : (size : ℕ) → HasOnode rows c o size → IsStateOf (width_of store.sup) rows c o (Some size) pages firsts
+    state_of : (size : ℕ) → HasOnode rows c o size → IsObjectState (width_of store.sup) rows c o (Some size) pages firsts
     state_of size has_size = record {
       layout = Some (record { size = size; pages = pages });
       has = (has_size, map_is);
@@ -69,15 +65,15 @@ module _ (rows : Rows) (c o : List ℕ) (coll : IsCollName c) (name : IsName o) 
       are_shards = subst (λ ps. AreShards rows c o ps) (sym has.firsts_are)
           (by_shards_present store.sup rows c o store.good has.shards has.are coll name);
       there = subst (AllByRecursion (λ page. HasKey rows (shard_key c o page))) (sym has.firsts_are) (keys_there store.sup rows c o store.good has.shards has.are.there);
-      in_order = subst Ascends (sym has.firsts_are) (climb_ascends (first_pages has.shards) (first_pages_climb has.shards has.are.rise));
+      in_order = subst Ascends (sym has.firsts_are) (first_pages_climb has.shards has.are.rise);
     }
 
-    pub state_there : (size : Option ℕ) → IsSizeAt rows c o size → is_some size ≡ true → IsStateOf (width_of store.sup) rows c o size pages firsts
+    pub state_there : (size : Option ℕ) → IsSizeAt rows c o size → is_some size ≡ true → IsObjectState (width_of store.sup) rows c o size pages firsts
     state_there None at some = absurd cc
     state_there (Some size) at some = state_of size at
 
   -- a missing object has no shard
-  no_state : finite.get rows (onode_key c o) ≡ None → IsStateOf (width_of store.sup) rows c o None finite.empty []
+  no_state : finite.get rows (onode_key c o) ≡ None → IsObjectState (width_of store.sup) rows c o None finite.empty []
   no_state none = record {
     layout = None;
     has = none;
@@ -94,6 +90,6 @@ module _ (rows : Rows) (c o : List ℕ) (coll : IsCollName c) (name : IsName o) 
     in_order = tt;
   }
 
-  pub state_missing : (size : Option ℕ) → IsSizeAt rows c o size → is_some size ≡ false → IsStateOf (width_of store.sup) rows c o size finite.empty []
+  pub state_missing : (size : Option ℕ) → IsSizeAt rows c o size → is_some size ≡ false → IsObjectState (width_of store.sup) rows c o size finite.empty []
   state_missing None at none = no_state at
   state_missing (Some size) at none = absurd cc

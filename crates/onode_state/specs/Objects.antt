@@ -3,26 +3,14 @@ use Rattle.std.specs.Prelude.{◌≡◌, ℕ, List, Option, Some, None}
 use Rattle.std.specs.List.{flat_map, AllByRecursion}
 use Rattle.std.specs.FinMap as finite
 use Rattle.meta_rows.specs.Prelude.{Rows}
-use Rattle.meta_log.specs.declared.slot.Super.{Super}
-use Rattle.meta_log.specs.Prelude.{IsSuper, width_of}
 use Rattle.unit_fields.specs.Prelude.{Ascends}
 use Rattle.unit_fields.specs.declared.width.Width.{Width}
 use Rattle.row_format.specs.Prelude.{onode_key, shard_key, Extent}
-use Rattle.store_image.specs.Prelude.{HasKey, HasOnode, NoBadRow}
+use Rattle.store_image.specs.Prelude.{HasKey, HasOnode}
+use Rattle.page_lookup.specs.Prelude.{HasUnit, FindPagesOf}
 use Rattle.blob_map.specs.Prelude.{PageMap, extent_pages, with_pages}
-use Rattle.draft_rows.specs.Prelude.{AreShards, AreShardsOf, extents_in, first_pages}
+use Rattle.object_rows.specs.Shards.{AreShards, AreShardsOf, extents_in, first_pages}
 use Rattle.plan_rows.specs.Prelude.{Layout, HasLayout, or_empty, size_at}
-
--- no row is bad, for the sizes of some superblock
-pub record AreRowsOfAStore (rows : Rows) : Type 0 where
-  pub sup : Super
-  pub limits : IsSuper sup
-  pub good : NoBadRow sup rows
-
--- so it is, and the store has checksums of this width
-pub record AreRowsOfWidth (w : Width) (rows : Rows) : Type 0 where
-  pub store : AreRowsOfAStore rows
-  pub wide : width_of store.sup ≡ w
 
 -- the object's shards have these first pages, and their pages put in a map are these
 pub record HasShards (w : Width) (rows : Rows) (c o : List ℕ) (firsts : List ℕ) (pages : PageMap) : Type 0 where
@@ -36,8 +24,14 @@ abbrev pub IsSizeAt : Rows → List ℕ → List ℕ → Option ℕ → Type 0
 IsSizeAt rows c o None = finite.get rows (onode_key c o) ≡ None
 IsSizeAt rows c o (Some size) = HasOnode rows c o size
 
+-- the object is there with so many bytes, and its pages, on units whose numbers have 32 bits, are found among these extents
+pub record IsObjectFound (w : Width) (rows : Rows) (c o : List ℕ) (size : ℕ) (pages : List Extent) : Type 0 where
+  pub has_size : HasOnode rows c o size
+  pub are_pages : FindPagesOf w rows c o pages
+  pub units : (page : ℕ) → HasUnit pages page
+
 -- The object has so many bytes, or is missing, its pages stand where the map says, and its shards begin at these pages. A missing one has none.
-pub record IsStateOf (w : Width) (rows : Rows) (c o : List ℕ) (size : Option ℕ) (pages : PageMap) (firsts : List ℕ) : Type 0 where
+pub record IsObjectState (w : Width) (rows : Rows) (c o : List ℕ) (size : Option ℕ) (pages : PageMap) (firsts : List ℕ) : Type 0 where
   pub layout : Option Layout
   pub has : HasLayout w rows c o layout
   pub size_is : size ≡ size_at layout

@@ -3,11 +3,10 @@
 //! In Ceph's BlueStore this is `get_onode` with `ExtentMap::fault_range`: an onode and its extent map, decoded from their keys. Whoever plans
 //! a change of an object or reads it begins here: a change has the whole map, a read looks up the pages that it wants.
 //!
-//! Proved: `object_state` gives its size, its page map and its shards; `object_pages` finds its pages one by one, and no others.
+//! Proved: `object_state` gives its size, its page map and its shards; `find_object` finds it exactly where it is there, with its pages one by
+//! one, and no others.
 #![tactic(auto)]
 
-mod names;
 mod object;
 
-pub use names::{coll_name_is_one, name_is_one};
-pub use object::{ObjectState, object_pages, object_size, object_state};
+pub use object::{FoundObject, ObjectState, find_object, object_size, object_state};

@@ -1,19 +1,17 @@
 //! What the rows say of an object: its size, where its pages stand, and which shards it has.
-ghost use Rattle.std.specs.Prelude.{◌≡◌, ℕ, Some, [], ◌∷◌, IfOk};
-ghost use Rattle.meta_rows.specs.Prelude.{rows_from_to};
-ghost use Rattle.row_format.specs.Prelude.{object_key, shard_key};
+ghost use Rattle.std.specs.Prelude.{◌≡◌, ◌↔◌, ℕ, None, IfOk, IsTrue, MatchOption};
+ghost use Rattle.std.specs.FinMap as finite;
+ghost use Rattle.unit_fields.specs.Prelude.{IsName, IsCollName};
+ghost use Rattle.row_format.specs.Prelude.{onode_key};
 ghost use Rattle.onode_codec.specs.Reading.{SpellsOnode};
-ghost use Rattle.plan_rows.specs.Prelude.{IsSizeOf};
-ghost use Rattle.page_lookup.specs.Prelude.{HasUnit, FindPagesOf};
-ghost use Rattle.onode_state.specs.Objects.{AreRowsOfAStore, AreRowsOfWidth};
-ghost use Rattle.onode_state.specs.Objects.{HasShards, IsSizeAt, IsStateOf};
+ghost use Rattle.object_rows.specs.Stores.{AreRowsOfAStore, AreRowsOfWidth};
+ghost use Rattle.onode_state.specs.Objects.{IsSizeAt, IsObjectFound, IsObjectState};
 
-use crate::names::{coll_name_is_one, name_is_one};
 use blob_map::PageMap;
 use byte_maps::Bytes;
 use extent_shards::JoinedShards;
-use meta_rows::{RowRange, RowTable};
-use onode_codec::{Onode, onode_key, shard_key, shards_end};
+use meta_rows::RowTable;
+use onode_codec::{Onode, onode_key, shards_end};
 use page_lookup::ShardPages;
 use std::alloc::{AllocError, Global};
 use unit_fields::{CollName, Name, Width};
@@ -40,8 +38,8 @@ fn size_in(value: &[u8]) -> u64
     }
 }
 
-// The bytes of an object, by its onode alone, where it is there.
-fn size_if_there(
+/// The bytes of an object, by its onode alone. None: it is missing.
+pub fn object_size(
     alloc: Global,
     rows: &RowTable,
     coll: &CollName,
@@ -50,8 +48,6 @@ fn size_if_there(
     requires { AreRowsOfAStore rows.now.rows }
     ensures { IfOk result (IsSizeAt rows.now.rows coll.now object.now) }
 {
-    coll_name_is_one(coll);
-    name_is_one(object);
     let key = onode_key(alloc, coll, object)?;
     match rows.get(key.as_slice()) {
         Some(value) => Ok(Some(size_in(value.as_slice()))),
@@ -59,50 +55,45 @@ fn size_if_there(
     }
 }
 
-/// The bytes of an object, by its onode alone. A missing one has none.
-pub fn object_size(
-    alloc: Global,
-    rows: &RowTable,
-    coll: &CollName,
-    object: &Name,
-) -> Result<u64, AllocError>
-    requires { AreRowsOfAStore rows.now.rows }
-    ensures { IfOk result (IsSizeOf rows.now.rows coll.now object.now) }
+// Whether both are the same key.
+fn is_same(key: &Bytes, other: &Bytes) -> bool
+    ensures { IsTrue result ↔ (key.now ≡ other.now) }
 {
-    Ok(size_if_there(alloc, rows, coll, object)?.unwrap_or(0))
+    key.as_slice() == other.as_slice()
 }
 
-// The rows of an object's shards, in the order of their pages.
-fn shard_rows<'a>(
-    alloc: Global,
-    rows: &'a RowTable,
-    coll: &CollName,
-    object: &Name,
-) -> Result<RowRange<'a>, AllocError>
-    ensures { IfOk result (λ found.
-        found ≡ rows_from_to rows.now.rows (shard_key coll.now object.now 0) (Some (object_key 0x4f coll.now object.now (0x70 ∷ [])))) }
-{
-    let first = shard_key(alloc, coll, object, 0)?;
-    let end = shards_end(alloc, coll, object)?;
-    Ok(rows.range(first.as_slice(), Some(end.as_slice())))
+/// An object that is there, to be read.
+#[derive(Drop)]
+pub struct FoundObject<'a> {
+    /// Its bytes.
+    pub size: u64,
+    /// Its pages, to be looked up in the rows of its shards as they stand. None of them is read yet.
+    pub pages: ShardPages<'a>,
 }
 
-/// The pages of an object, to be looked up in the rows of its shards as they stand. None of them is read here. A missing object has none.
-pub fn object_pages<'a>(
+/// An object to be read. None: it is missing. One range of rows has its onode in front and its shards behind.
+pub fn find_object<'a>(
     alloc: Global,
     width: Width,
     rows: &'a RowTable,
     coll: &CollName,
     object: &Name,
-) -> Result<ShardPages<'a>, AllocError>
+) -> Result<Option<FoundObject<'a>>, AllocError>
     requires { AreRowsOfWidth width rows.now.rows }
-    ensures found { IfOk result (FindPagesOf width rows.now.rows coll.now object.now) }
-    ensures units { IfOk result (λ pages. (page : ℕ) → HasUnit pages page) }
+    ensures names { IsCollName coll.now × IsName object.now }
+    ensures found { IfOk result (λ found. MatchOption found (finite.get rows.now.rows (onode_key coll.now object.now) ≡ None)
+        (λ it. IsObjectFound width rows.now.rows coll.now object.now it.size it.pages)) }
 {
-    coll_name_is_one(coll);
-    name_is_one(object);
-    let shards = shard_rows(alloc, rows, coll, object)?;
-    Ok(ShardPages::new(width, shards))
+    let onode = onode_key(alloc, coll, object)?;
+    let end = shards_end(alloc, coll, object)?;
+    let mut shards = rows.range(onode.as_slice(), Some(end.as_slice()));
+    match shards.next() {
+        Some((key, value)) if is_same(key, &onode) => Ok(Some(FoundObject {
+            size: size_in(value.as_slice()),
+            pages: ShardPages::new(width, shards),
+        })),
+        _ => Ok(None),
+    }
 }
 
 /// The object as the rows have it. One range of rows begins with its onode and has its shards behind, and each is read once, straight into
@@ -115,10 +106,8 @@ pub fn object_state(
     object: &Name,
 ) -> Result<ObjectState, AllocError>
     requires { AreRowsOfWidth width rows.now.rows }
-    ensures { IfOk result (λ state. IsStateOf width rows.now.rows coll.now object.now state.size state.pages state.shards.items) }
+    ensures { IfOk result (λ state. IsObjectState width rows.now.rows coll.now object.now state.size state.pages state.shards.items) }
 {
-    coll_name_is_one(coll);
-    name_is_one(object);
     let onode = onode_key(alloc, coll, object)?;
     let mut size = None;
     let mut shards = JoinedShards::new(alloc);

@@ -2,7 +2,7 @@
 use Rattle.std.proofs.Common.{◌≡◌, inl, inr, ℕ, zero, suc, ◌+◌, ◌<◌, ◌≤◌, ◌==◌, Bool, true, false, cond, List, [], ◌∷◌, ◌++◌, length, drop, get_or, set, Option, Some, None, refl, sym, ap, subst, ◌∙◌, arith}
 use Rattle.std.proofs.lemmas.Bool.{cases_lt, eq-eqb, ne_eqb, eqb-true, or_cases, false≢true}
 use Rattle.op_sequencer.specs.declared.sequencer.Turn.{Turn}
-use Rattle.op_sequencer.specs.Turns.{AscendFrom, IsAboveAll, IsTurnAt, has_turn, done_at, ready, behind}
+use Rattle.op_sequencer.specs.Turns.{AscendFrom, IsAboveTurns, IsTurnAt, has_turn, done_at, ready, behind}
 
 -- ---- a place below all others
 
@@ -120,7 +120,7 @@ ascend_done place least (t ∷ ts) up =
 
 -- ---- a turn behind all, and the first one taken out
 
-pub ascend_push : (least place : ℕ) (done : Bool) (ts : List Turn) → AscendFrom least ts → least ≤ place → IsAboveAll place ts
+pub ascend_push : (least place : ℕ) (done : Bool) (ts : List Turn) → AscendFrom least ts → least ≤ place → IsAboveTurns place ts
     → AscendFrom least (ts ++ record { place = place; done = done } ∷ [])
 ascend_push least place done [] up le above = (le, tt)
 ascend_push least place done (t ∷ ts) up le above = (up.0, ascend_push (t.place + 1) place done ts up.1 (omega (arith, above.0)) above.1)

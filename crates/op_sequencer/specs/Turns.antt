@@ -9,8 +9,8 @@ AscendFrom least [] = Unit {0}
 AscendFrom least (t ∷ ts) = (least ≤ t.place) × AscendFrom (t.place + 1) ts
 
 -- the place is above all others
-abbrev pub IsAboveAll : ℕ → List Turn → Type 0
-IsAboveAll place turns = AllByRecursion (λ t. t.place < place) turns
+abbrev pub IsAboveTurns : ℕ → List Turn → Type 0
+IsAboveTurns place turns = AllByRecursion (λ t. t.place < place) turns
 
 -- a turn has this place
 abbrev pub has_turn : ℕ → List Turn → Bool

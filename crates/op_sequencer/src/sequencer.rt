@@ -1,6 +1,6 @@
 //! The contexts of one collection, in order of submission.
 ghost use Rattle.std.specs.Prelude.{◌≡◌, ◌↔◌, ◌++◌, ◌∷◌, [], true, IsTrue, OnOk, OnErr};
-ghost use Rattle.op_sequencer.specs.Turns.{AscendFrom, IsAboveAll, IsTurnAt, has_turn, done_at, ready, behind, without_ready};
+ghost use Rattle.op_sequencer.specs.Turns.{AscendFrom, IsAboveTurns, IsTurnAt, has_turn, done_at, ready, behind, without_ready};
 
 use std::alloc::{AllocError, Global};
 use std::collections::VecDeque;
@@ -75,7 +75,7 @@ impl Sequencer {
 
     /// A context waits behind the others, at this place of the book. It is done at once where it has no data write.
     pub fn push(&mut self, place: u32, done: bool) -> Result<(), AllocError>
-        requires { IsAboveAll place self.old }
+        requires { IsAboveTurns place self.old }
         ensures ok { OnOk result (self.new ≡ self.old ++ record { place = place; done = done } ∷ []) }
         ensures err { OnErr result (self.new ≡ self.old) }
     {

@@ -1,9 +1,7 @@
 -- How many units an edit takes: one for each page of a write, two for zeros, one for a truncate.
-use Rattle.std.proofs.Common.{◌≡◌, inl, inr, ℕ, zero, suc, ◌+◌, ◌-◌, ◌*◌, ◌/◌, ◌<◌, ◌≤◌, Bool, true, false, cond, not, List, [], ◌∷◌, length, filter, eqb, refl, sym, ap, subst, ◌∙◌, arith}
-use Rattle.std.specs.Prelude.{◌||◌}
+use Rattle.std.proofs.Common.{◌≡◌, inl, inr, ℕ, zero, suc, ◌+◌, ◌-◌, ◌*◌, ◌/◌, ◌<◌, ◌≤◌, Bool, true, false, cond, List, [], ◌∷◌, length, filter, eqb, refl, sym, ap, subst, arith}
 use Rattle.std.specs.List.{range_with_len}
-use Rattle.std.specs.FinMap as finite
-use Rattle.std.proofs.lemmas.Bool.{cases_lt, cases_eq, cond-false, cond_both, ne_eqb, and_right, not_from_true}
+use Rattle.std.proofs.lemmas.Bool.{cases_lt, cases_eq, cond-false, cond_both, ne_eqb}
 use Rattle.std.proofs.lemmas.List.FromFn.{length-range_with_len}
 use Rattle.byte_maps.specs.Units.{zeros}
 use Rattle.byte_maps.proofs.Prelude.{length-zeros}
@@ -11,10 +9,11 @@ use Rattle.object_model.specs.declared.op.Op.{Op}
 use Rattle.object_model.specs.declared.op.Op.TheVariants.{Write, Zero, Truncate}
 use Rattle.object_model.specs.Prelude.{object_limit, payload_of, payload_limit}
 use Rattle.plan_drafts.specs.declared.draft.Draft.{Draft}
-use Rattle.plan_drafts.specs.Edits.{Edit, end_of, edit_of, covers_whole, is_there, is_in_part, is_put, pages_touched, pages_put, pages_taking, IsWithin}
+use Rattle.plan_drafts.specs.Edits.{Edit, end_of, edit_of, fate_of, gets_bytes, takes_unit, pages_touched, pages_put, pages_taking, IsInLimits}
 use Rattle.plan_drafts.specs.Plans.{most_units_of}
 use Rattle.page_edits.proofs.PageRanges.{some_touched, none_touched, is_covered}
 use Rattle.page_edits.proofs.EditSizes.{zeros_cut, length_cut}
+use Rattle.page_edits.proofs.Fates.{gets_none}
 
 -- ---- how many numbers of a range pass a test
 
@@ -61,30 +60,31 @@ module _ (test : ℕ → Bool) where
 
 -- ---- the pages that get new bytes
 
+abbrev gets : Edit → Draft → ℕ → Bool
+gets e d page = gets_bytes (fate_of e d page)
+
 module _ (e : Edit) (d : Draft) where
   none_put : end_of e ≤ e.off → length (pages_put e d) ≤ 0
-  none_put none = subst (λ l. length (filter (is_put e d) l) ≤ 0) (sym (none_touched e.off (end_of e) none)) (omega arith)
+  none_put none = subst (λ l. length (filter (gets e d) l) ≤ 0) (sym (none_touched e.off (end_of e) none)) (omega arith)
 
   -- zeros put no page that they cover wholly
-  covered_fails : e.clears ≡ true → (page : ℕ) → e.off ≤ 4096 * page → 4096 * page + 4096 ≤ end_of e → is_put e d page ≡ false
+  covered_fails : e.clears ≡ true → (page : ℕ) → e.off ≤ 4096 * page → 4096 * page + 4096 ≤ end_of e → gets e d page ≡ false
   covered_fails clears page from to =
-      ap (λ b. not b || is_in_part e d page) clears
-      ∙ and_right (is_there d page) (not (covers_whole e.off (end_of e) page))
-      (not_from_true (covers_whole e.off (end_of e) page) (is_covered e.off (end_of e) page from to))
+      gets_none e.off (end_of e) e.clears d page clears (is_covered e.off (end_of e) page from to)
 
   two_put : e.clears ≡ true → e.off < end_of e → length (pages_put e d) ≤ 2
-  two_put clears some = subst (λ l. length (filter (is_put e d) l) ≤ 2) (sym (some_touched e.off (end_of e) some))
-      (ends_pass (is_put e d) ((end_of e + 4095) / 4096 - e.off / 4096) (e.off / 4096)
+  two_put clears some = subst (λ l. length (filter (gets e d) l) ≤ 2) (sym (some_touched e.off (end_of e) some))
+      (ends_pass (gets e d) ((end_of e + 4095) / 4096 - e.off / 4096) (e.off / 4096)
       (λ x from to. covered_fails clears x (omega (arith, from)) (omega (arith, to))))
 
   -- only the first page may be covered in part, where the end is at the end of a page
   one_put : e.clears ≡ true → (count : ℕ) → end_of e ≡ 4096 * count → e.off < end_of e → length (pages_put e d) ≤ 1
-  one_put clears count whole some = subst (λ l. length (filter (is_put e d) l) ≤ 1) (sym (some_touched e.off (end_of e) some))
-      (first_passes (is_put e d) ((end_of e + 4095) / 4096 - e.off / 4096) (e.off / 4096)
+  one_put clears count whole some = subst (λ l. length (filter (gets e d) l) ≤ 1) (sym (some_touched e.off (end_of e) some))
+      (first_passes (gets e d) ((end_of e + 4095) / 4096 - e.off / 4096) (e.off / 4096)
       (λ x from to. covered_fails clears x (omega (arith, from)) (omega (arith, to, whole))))
 
 pub few_put : (op : Op) (size : ℕ) (d : Draft) → length (pages_put (edit_of op size) d) ≤ most_units_of op
-few_put (Write o off bytes) size d = length_filter (is_put (edit_of (Write o off bytes) size) d) (pages_touched off (off + length bytes))
+few_put (Write o off bytes) size d = length_filter (gets (edit_of (Write o off bytes) size) d) (pages_touched off (off + length bytes))
 few_put (Zero o off len) size d = elim (cases_eq len 0) [
   | inl none ↦
       let no_bytes : off + length (zeros len) ≤ off = omega (arith, none, length-zeros len) in
@@ -111,7 +111,7 @@ few_put op size d = omega arith
 pub few_units : (op : Op) (size : ℕ) (d : Draft) → length (pages_taking (edit_of op size) d) ≤ most_units_of op
 few_units op size d = omega (
   arith,
-  length_filter (λ page. not (finite.contains_key d.puts page)) (pages_put (edit_of op size) d),
+  length_filter (λ page. takes_unit (fate_of (edit_of op size) d page)) (pages_put (edit_of op size) d),
   few_put op size d,
 )
 
@@ -125,7 +125,7 @@ pages_within off end within = elim (cases_lt off end) [
       omega (arith, short, ap (λ l. length l) (some_touched off end some), length-range_with_len (off / 4096) ((end + 4095) / 4096 - off / 4096))
 ]
 
-pub units_within : (op : Op) → IsWithin op → most_units_of op ≤ 32768
+pub units_within : (op : Op) → IsInLimits op → most_units_of op ≤ 32768
 units_within (Write o off bytes) within = pages_within off (off + length bytes) within
 units_within (Zero o off len) within = cond_both (eqb len 0) 0 2 (λ n. n ≤ 32768) (λ none. omega arith) (λ some. omega arith)
 units_within (Truncate o to) within = omega arith

@@ -10,7 +10,7 @@ use Rattle.store_image.specs.Prelude.{page_bytes}
 use Rattle.plan_drafts.specs.declared.draft.Draft.{Draft}
 use Rattle.plan_rows.specs.declared.plan.ReadUnit.{ReadUnit}
 use Rattle.plan_drafts.specs.Edits.{Edit, end_of, covers_whole, is_there, is_cleared, is_touched, pages_put, places_read, page_after, old_page, taking_of, drafted, Held, writes_of, with_writes, HoldBytes}
-use Rattle.page_edits.specs.Takings.{IsNumbered, AreWhole, WereRead}
+use Rattle.page_edits.specs.Takings.{IsNumbered, PutsWholePages, WereRead}
 use Rattle.page_edits.proofs.Lists.{In}
 use Rattle.page_edits.proofs.PageRanges.{IsApart, touched_or_apart, covered}
 use Rattle.page_edits.proofs.PagesPut.{in_or_not}
@@ -46,7 +46,7 @@ module _ (e : Edit) (read : List ReadUnit) (held : Held) (n : ℕ) (d : Draft) w
         (was, stays_apart e d page (or_right (finite.contains_key d.kept page) (finite.contains_key d.puts page) (ap is_some was)) none kept)
   ]
 
-  pub whole_then : AllByRecursion (λ r. length r.bytes ≡ 4096) read → AreWhole held d → AreWhole held_then (drafted e n d)
+  pub whole_then : AllByRecursion (λ r. length r.bytes ≡ 4096) read → PutsWholePages held d → PutsWholePages held_then (drafted e n d)
   whole_then reads whole page taking is = elim (in_or_not (pages_put e d) page) [
     | inl put ↦ some_written taking_then bytes_then (λ bytes. length bytes ≡ 4096) (pages_put e d) held page taking put (taking_from page taking is) (λ q has. each q)
     | inr none ↦ all_written taking_then bytes_then (λ bytes. length bytes ≡ 4096) (pages_put e d) held taking

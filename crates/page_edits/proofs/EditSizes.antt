@@ -8,7 +8,7 @@ use Rattle.object_model.specs.declared.op.Op.TheVariants.{Write, Zero, Truncate}
 use Rattle.object_model.specs.Prelude.{object_limit}
 use Rattle.store_image.specs.Prelude.{pages_of}
 use Rattle.plan_drafts.specs.declared.draft.Draft.{Draft}
-use Rattle.plan_drafts.specs.Edits.{Edit, end_of, grown, edit_of, covers_whole, is_there, is_put, is_cleared, drafted, EndsBelow, IsWithin}
+use Rattle.plan_drafts.specs.Edits.{Edit, end_of, grown, edit_of, covers_whole, is_there, is_cleared, fate_of, gets_bytes, drafted, EndsBelow, IsInLimits}
 use Rattle.page_edits.proofs.PageRanges.{IsTouched, in_part}
 use Rattle.page_edits.proofs.DraftedPages.{put_touched, put_test, stood_in_part, stood_or_put}
 
@@ -58,7 +58,7 @@ length_cut to size = elim (zeros_cut_is to size) [
 
 -- ---- limits
 
-pub end_within : (op : Op) (size : ℕ) → IsWithin op → end_of (edit_of op size) ≤ object_limit
+pub end_within : (op : Op) (size : ℕ) → IsInLimits op → end_of (edit_of op size) ≤ object_limit
 end_within (Write o off bytes) size within = within
 end_within (Zero o off len) size within = subst (λ n. off + n ≤ object_limit) (let is : len ≡ length (zeros len) = omega (arith, length-zeros len) in is) within
 end_within (Truncate o to) size within = elim (length_cut to size) [
@@ -67,7 +67,7 @@ end_within (Truncate o to) size within = elim (length_cut to size) [
 ]
 end_within op size within = omega arith
 
-pub size_within : (op : Op) (size : ℕ) → IsWithin op → size ≤ object_limit → (edit_of op size).size ≤ object_limit
+pub size_within : (op : Op) (size : ℕ) → IsInLimits op → size ≤ object_limit → (edit_of op size).size ≤ object_limit
 size_within (Write o off bytes) size within small = grown_within size off (length bytes) small within
 size_within (Zero o off len) size within small = grown_within size off len small within
 size_within (Truncate o to) size within small = within
@@ -77,7 +77,7 @@ size_within op size within small = small
 
 module _ (n : ℕ) (d : Draft) where
   -- every page that stands anywhere either gets new bytes, or stood there and stays
-  ends_by : (e : Edit) (end : ℕ) → ((page : ℕ) → IsTouched e.off (end_of e) page → is_put e d page ≡ true → page < end)
+  ends_by : (e : Edit) (end : ℕ) → ((page : ℕ) → IsTouched e.off (end_of e) page → gets_bytes (fate_of e d page) ≡ true → page < end)
       → ((page : ℕ) → is_there d page ≡ true → is_cleared e page ≡ false → page < end) → EndsBelow (drafted e n d) end
   ends_by e end put stays = λ page is. elim (stood_or_put e d n page is) [
     | inl new ↦ put page (put_touched e d page new) (put_test e d page new)
@@ -95,7 +95,7 @@ module _ (n : ℕ) (d : Draft) where
     ]
   ]
 
-  ends_of : (op : Op) (size : ℕ) → IsWithin op → size ≤ object_limit → EndsBelow d (pages_of size)
+  ends_of : (op : Op) (size : ℕ) → IsInLimits op → size ≤ object_limit → EndsBelow d (pages_of size)
       → EndsBelow (drafted (edit_of op size) n d) (pages_of (edit_of op size).size)
   ends_of (Write o off bytes) size within small below = ends_by (edit_of (Write o off bytes) size) (pages_of (grown size off (length bytes)))
       (λ page t is. laid_ends size off (length bytes) page t) (λ page stood kept. kept_ends size off (length bytes) page (below page stood))
@@ -103,11 +103,11 @@ module _ (n : ℕ) (d : Draft) where
       (λ page t is. laid_ends size off len page (subst (λ k. IsTouched off (off + k) page) (length-zeros len) t))
       (λ page stood kept. kept_ends size off len page (below page stood))
   ends_of (Truncate o to) size within small below = ends_by (edit_of (Truncate o to) size) (pages_of to)
-      (λ page t is. let p = stood_in_part (edit_of (Truncate o to) size) d page refl is in cut_ends to size page small (below page p.0) p.1)
+      (λ page t is. let p = stood_in_part (edit_of (Truncate o to) size) d page t refl is in cut_ends to size page small (below page p.0) p.1)
       (λ page stood kept. cut_ends to size page small (below page stood) kept)
   ends_of op size within small below = ends_by (edit_of op size) (pages_of size) (λ page t is. absurd (let some : 0 < 0 = t.some in omega (arith, some)))
       (λ page stood kept. below page stood)
 
-pub ends : (op : Op) (n : ℕ) (d : Draft) → IsWithin op → d.size ≤ object_limit → EndsBelow d (pages_of d.size)
+pub ends : (op : Op) (n : ℕ) (d : Draft) → IsInLimits op → d.size ≤ object_limit → EndsBelow d (pages_of d.size)
     → EndsBelow (drafted (edit_of op d.size) n d) (pages_of (edit_of op d.size).size)
 ends op n d within small below = ends_of n d op d.size within small below

@@ -2,6 +2,7 @@ pub mod Lists
 pub mod Entries
 pub mod PageRanges
 pub mod PagesPut
+pub mod Fates
 pub mod DraftedPages
 pub mod EditSizes
 pub mod Counts

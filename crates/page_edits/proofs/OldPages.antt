@@ -1,20 +1,22 @@
 -- The old bytes of pages, as they were read or put, and that pages with new bytes are whole.
-use Rattle.std.proofs.Common.{◌≡◌, inl, inr, ℕ, ◌+◌, ◌-◌, ◌*◌, ◌≤◌, true, false, cond, not, List, [], ◌∷◌, ◌++◌, length, map, filter, flat_map, Option, Some, None, is_some, eqb, refl, sym, ap, subst, ◌∙◌}
+use Rattle.std.proofs.Common.{◌≡◌, inl, inr, ℕ, ◌+◌, ◌-◌, ◌*◌, ◌≤◌, true, false, cond, List, [], ◌∷◌, ◌++◌, length, map, flat_map, Option, Some, None, is_some, eqb, refl, sym, ap, subst, ◌∙◌}
 use Rattle.std.specs.List.{AllByRecursion}
 use Rattle.std.specs.Option.{option_map_or, option_to_list}
 use Rattle.std.specs.FinMap as finite
-use Rattle.std.proofs.lemmas.Bool.{cases_Bool, and_from, or_left, or_from, not_from_false, eqb-true, eqb-false}
+use Rattle.std.proofs.lemmas.Bool.{cases_Bool, or_from, eqb-true, eqb-false}
 use Rattle.byte_maps.specs.Units.{zeros}
 use Rattle.byte_maps.proofs.Prelude.{length-zeros}
 use Rattle.row_format.specs.Prelude.{Place, own}
 use Rattle.store_image.specs.Prelude.{page_bytes}
 use Rattle.plan_drafts.specs.declared.draft.Draft.{Draft}
 use Rattle.plan_rows.specs.declared.plan.ReadUnit.{ReadUnit}
-use Rattle.plan_drafts.specs.Edits.{Edit, end_of, covers_whole, is_there, is_in_part, pages_touched, places_read, own_units, bytes_read, bytes_in, Held, old_page, page_after, HoldBytes}
-use Rattle.page_edits.specs.Takings.{AreWhole, WereRead}
+use Rattle.plan_drafts.specs.Edits.{Edit, end_of, covers_whole, fate_of, gets_bytes, needs_old, pages_touched, pages_put, place_read, places_read, units_read, bytes_read, old_bytes_in, Held, old_page, page_after, HoldBytes}
+use Rattle.page_edits.specs.Takings.{PutsWholePages, WereRead}
 use Rattle.page_edits.proofs.Lists.{In, in_contains, contains_in, in_filter}
 use Rattle.page_edits.proofs.PageRanges.{IsTouched, in_touched, covered}
 use Rattle.page_edits.proofs.Patches.{shared_is}
+use Rattle.page_edits.proofs.Fates.{reads_old}
+use Rattle.page_edits.proofs.DraftedPages.{touched_has}
 
 -- where a piece covers a page the old bytes don't matter
 pub after_any : (off : ℕ) (piece : List ℕ) (page : ℕ) (x y : List ℕ) → off ≤ 4096 * page → 4096 * page + 4096 ≤ off + length piece
@@ -25,18 +27,18 @@ after_any off piece page x y from to =
 -- ---- lengths
 
 module _ (read : List ReadUnit) (all : AllByRecursion (λ r. length r.bytes ≡ 4096) read) where
-  place_length : (place : Place) → length (bytes_in read place) ≡ 4096
+  place_length : (place : Place) → length (old_bytes_in read place) ≡ 4096
   place_length (own unit csum) = by read all
     where
       by : (rs : List ReadUnit) → AllByRecursion (λ r. length r.bytes ≡ 4096) rs → length (bytes_read rs unit) ≡ 4096
       by [] all = length-zeros 4096
       by (r ∷ rs) all = elim (eqb r.unit unit) as (λ b. length (cond b r.bytes (bytes_read rs unit)) ≡ 4096) [ true ↦ all.0 | false ↦ by rs all.1 ]
 
-  pub old_length : (held : Held) (d : Draft) (page : ℕ) → AreWhole held d → length (old_page read held d page) ≡ 4096
+  pub old_length : (held : Held) (d : Draft) (page : ℕ) → PutsWholePages held d → length (old_page read held d page) ≡ 4096
   old_length held d page whole = by (finite.get d.puts page) (finite.get d.kept page) refl
     where
       by : (x : Option ℕ) (y : Option Place) → finite.get d.puts page ≡ x
-          → length (option_map_or held x (option_map_or (bytes_in read) y (zeros 4096))) ≡ 4096
+          → length (option_map_or held x (option_map_or (old_bytes_in read) y (zeros 4096))) ≡ 4096
       by (Some taking) y put = whole page taking put
       by None (Some place) none = place_length place
       by None None none = length-zeros 4096
@@ -71,12 +73,13 @@ module _ (at : ℕ → List ℕ) where
 
   module _ (e : Edit) (read : List ReadUnit) (held : Held) (d : Draft) (old : List ℕ) (hold : HoldBytes at held d old)
       (reads : WereRead at (places_read e d) read) where
-    unit_was_read : (page unit csum : ℕ) → finite.get d.kept page ≡ Some (own unit csum)
-        → In (filter (is_in_part e d) (pages_touched e.off (end_of e))) page → In (map (λ r. r.unit) read) unit
-    unit_was_read page unit csum stands has = contains_in (map (λ r. r.unit) read) unit (reads.among unit (in_contains (flat_map own_units (places_read e d)) unit
-        (in_flat_map own_units (places_read e d) (own unit csum) unit
-        (in_flat_map (λ q. option_to_list (finite.get d.kept q)) (filter (is_in_part e d) (pages_touched e.off (end_of e))) page (own unit csum) has
-        (subst (λ x. In (option_to_list x) (own unit csum)) (sym stands) (inl refl)))
+    unit_was_read : (page unit csum : ℕ) → finite.get d.kept page ≡ Some (own unit csum) → In (pages_put e d) page → needs_old (fate_of e d page) ≡ true
+        → In (map (λ r. r.unit) read) unit
+    unit_was_read page unit csum stands put needs = contains_in (map (λ r. r.unit) read) unit (reads.among unit
+        (in_contains (flat_map units_read (places_read e d)) unit
+        (in_flat_map units_read (places_read e d) (own unit csum) unit
+        (in_flat_map (λ q. option_to_list (place_read (fate_of e d q) (finite.get d.kept q))) (pages_put e d) page (own unit csum) put
+        (subst (λ x. In (option_to_list x) (own unit csum)) (sym (ap (λ b. cond b (finite.get d.kept page) None) needs ∙ stands)) (inl refl)))
         (inl refl))))
 
     -- A page that is touched gets what the edit makes of its old bytes: they were put or read, or the page was a hole, or they don't matter.
@@ -85,17 +88,16 @@ module _ (at : ℕ → List ℕ) where
     bytes_are_new page t = by (finite.get d.puts page) (finite.get d.kept page) refl refl
       where
         by : (x : Option ℕ) (y : Option Place) → finite.get d.puts page ≡ x → finite.get d.kept page ≡ y
-            → page_after e.off e.piece page (option_map_or held x (option_map_or (bytes_in read) y (zeros 4096))) ≡ page_after e.off e.piece page (page_bytes old page)
+            → page_after e.off e.piece page (option_map_or held x (option_map_or (old_bytes_in read) y (zeros 4096))) ≡ page_after e.off e.piece page (page_bytes old page)
         by (Some taking) y put stands = ap (page_after e.off e.piece page) (hold.put page taking put)
         by None None none hole = ap (page_after e.off e.piece page)
             (sym (hold.holes page (or_from (finite.contains_key d.kept page) (finite.contains_key d.puts page) (ap is_some hole) (ap is_some none))))
         by None (Some (own unit csum)) none stands = elim (cases_Bool (covers_whole e.off (end_of e) page)) [
           | inr part ↦ ap (page_after e.off e.piece page) (
+              let fate = reads_old e.off (end_of e) e.clears d page (touched_has e.off (end_of e) page t) (own unit csum) part none stands in
               bytes_seen read reads.seen unit (unit_was_read page unit csum stands
-              (in_filter (is_in_part e d) (pages_touched e.off (end_of e)) page (in_touched e.off (end_of e) page t)
-              (and_from (is_there d page) (not (covers_whole e.off (end_of e) page))
-              (or_left (finite.contains_key d.kept page) (finite.contains_key d.puts page) (ap is_some stands))
-              (not_from_false (covers_whole e.off (end_of e) page) part))))
+              (in_filter (λ q. gets_bytes (fate_of e d q)) (pages_touched e.off (end_of e)) page (in_touched e.off (end_of e) page t)
+              (ap gets_bytes fate)) (ap needs_old fate))
               ∙ (hold.kept page unit csum stands none).0)
           | inl whole ↦ let c = covered e.off (end_of e) page whole in
               after_any e.off e.piece page (bytes_read read unit) (page_bytes old page) c.0 c.1

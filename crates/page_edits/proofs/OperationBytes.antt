@@ -8,7 +8,7 @@ use Rattle.object_model.specs.Prelude.{object_limit, overwritten}
 use Rattle.store_image.specs.Prelude.{page_bytes}
 use Rattle.plan_drafts.specs.declared.draft.Draft.{Draft}
 use Rattle.plan_rows.specs.declared.plan.ReadUnit.{ReadUnit}
-use Rattle.plan_drafts.specs.Edits.{grown, edit_of, places_read, page_after, drafted, Held, writes_of, with_writes, HoldBytes, bytes_after, IsWithin}
+use Rattle.plan_drafts.specs.Edits.{grown, edit_of, places_read, page_after, drafted, Held, writes_of, with_writes, HoldBytes, bytes_after, IsInLimits}
 use Rattle.page_edits.specs.Takings.{IsNumbered, WereRead}
 use Rattle.page_edits.proofs.EditSizes.{grown_is, zeros_cut_is}
 use Rattle.page_edits.proofs.PageBytes.{zero_there, page_length, resized_length, over_none, over_length, after_apart, page_overwritten, page_grown, page_cut}
@@ -18,7 +18,7 @@ use Rattle.page_edits.proofs.DraftedBytes.{bytes_hold}
 after_nothing : (off page : ℕ) (bytes : List ℕ) → page_after off [] page (page_bytes bytes page) ≡ page_bytes bytes page
 after_nothing off page bytes = after_apart off [] page (page_bytes bytes page) (page_length bytes page) (inl (omega arith))
 
-page_edited : (op : Op) (old : List ℕ) → IsWithin op → length old ≤ object_limit → (page : ℕ)
+page_edited : (op : Op) (old : List ℕ) → IsInLimits op → length old ≤ object_limit → (page : ℕ)
     → page_bytes (bytes_after op old) page ≡ page_after (edit_of op (length old)).off (edit_of op (length old)).piece page (page_bytes old page)
 page_edited (Write o off bytes) old within short page = page_overwritten old off bytes page
 page_edited (Zero o off len) old within short page = page_overwritten old off (zeros len) page
@@ -46,7 +46,7 @@ length_overwritten old off piece = elim (grown_is (length old) off (length piece
   | inr none ↦ ap (λ l. length l) (over_none old piece off (omega (arith, none.0))) ∙ sym none.1
 ]
 
-pub length_after : (op : Op) (old : List ℕ) → IsWithin op → length old ≤ object_limit → length (bytes_after op old) ≡ (edit_of op (length old)).size
+pub length_after : (op : Op) (old : List ℕ) → IsInLimits op → length old ≤ object_limit → length (bytes_after op old) ≡ (edit_of op (length old)).size
 length_after (Write o off bytes) old within short = length_overwritten old off bytes
 length_after (Zero o off len) old within short = length_overwritten old off (zeros len) ∙ ap (grown (length old) off) (length-zeros len)
 length_after (Truncate o to) old within short = resized_length old to
@@ -55,7 +55,7 @@ length_after op old within short = refl
 -- ---- the pages hold them
 
 pub operation_holds : (at : ℕ → List ℕ) (held : Held) (op : Op) (old : List ℕ) (read : List ReadUnit) (n : ℕ) (d : Draft)
-    → IsWithin op → length old ≤ object_limit → d.size ≡ length old → HoldBytes at held d old → IsNumbered n d
+    → IsInLimits op → length old ≤ object_limit → d.size ≡ length old → HoldBytes at held d old → IsNumbered n d
     → WereRead at (places_read (edit_of op d.size) d) read
     → HoldBytes at (with_writes (writes_of (edit_of op d.size) read held n d) held) (drafted (edit_of op d.size) n d) (bytes_after op old)
 operation_holds at held op old read n d within short size hold num reads =

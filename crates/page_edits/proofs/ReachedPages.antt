@@ -1,13 +1,17 @@
 -- The pages that a range of bytes reaches: all but the first and the last one have no other bytes than those of the range.
-use Rattle.std.proofs.Common.{◌≡◌, ℕ, zero, suc, ◌+◌, ◌-◌, ◌*◌, ◌/◌, ◌<◌, ◌≤◌, Bool, true, false, cond, List, [], ◌∷◌, ◌++◌, refl, sym, ap, ◌∙◌, arith}
-use Rattle.std.specs.Prelude.{◌&&◌, not, nat_lt, filter}
+use Rattle.std.proofs.Common.{◌≡◌, inl, inr, ℕ, zero, suc, ◌+◌, ◌-◌, ◌*◌, ◌/◌, ◌<◌, ◌≤◌, Bool, true, false, cond, List, [], ◌∷◌, ◌++◌, refl, sym, ap, ◌∙◌, arith}
+use Rattle.std.specs.Prelude.{nat_lt, filter}
 use Rattle.std.specs.List.{range_with_len}
-use Rattle.std.proofs.Math.Bool.{and-false}
 use Rattle.std.proofs.lemmas.Bool.Decides.{nat_tests}
 use Rattle.std.proofs.lemmas.List.Elements.{filter-append}
 use Rattle.plan_drafts.specs.declared.draft.Draft.{Draft}
-use Rattle.plan_drafts.specs.Edits.{covers_whole, is_there}
-use Rattle.page_edits.specs.Ranges.{is_part}
+use Rattle.plan_drafts.specs.Edits.{covers_whole, gets_bytes, pages_touched}
+use Rattle.page_edits.specs.declared.spans.Span.{Span}
+use Rattle.page_edits.specs.Ranges.{fate_on}
+use Rattle.page_edits.proofs.Lists.{In}
+use Rattle.page_edits.proofs.PageRanges.{of_touched}
+use Rattle.page_edits.proofs.Fates.{gets_all}
+use Rattle.page_edits.proofs.DraftedPages.{touched_has}
 
 pub lt_true : (a b : ℕ) → a < b → nat_lt a b ≡ true
 lt_true a b lt = grind (arith, nat_tests)
@@ -28,9 +32,9 @@ filter_none p a (suc n) none =
     ap (λ b. cond b (a ∷ filter p (range_with_len (a + 1) n)) (filter p (range_with_len (a + 1) n))) (none a (omega arith) (omega arith))
     ∙ filter_none p (a + 1) n (λ k le lt. none k (omega (arith, le)) (omega (arith, lt)))
 
-pub filter_all : (p : ℕ → Bool) (xs : List ℕ) → ((k : ℕ) → p k ≡ true) → filter p xs ≡ xs
+filter_all : (p : ℕ → Bool) (xs : List ℕ) → ((x : ℕ) → In xs x → p x ≡ true) → filter p xs ≡ xs
 filter_all p [] all = refl
-filter_all p (x ∷ xs) all = ap (λ b. cond b (x ∷ filter p xs) (filter p xs)) (all x) ∙ ap (λ l. x ∷ l) (filter_all p xs all)
+filter_all p (x ∷ xs) all = ap (λ b. cond b (x ∷ filter p xs) (filter p xs)) (all x (inl refl)) ∙ ap (λ l. x ∷ l) (filter_all p xs (λ y is. all y (inr is)))
 
 -- the pages of two or more that pass a test which none between the first and the last one passes
 pub ends_pass : (p : ℕ → Bool) (a b : ℕ) → a + 1 < b → ((k : ℕ) → a < k → k + 1 < b → p k ≡ false)
@@ -48,14 +52,16 @@ ends_pass p a b lt none =
     ∙ ap (λ k. filter p (a ∷ []) ++ filter p (k ∷ [])) last
     )
 
--- ---- the pages in part
+-- ---- the pages between
 
-inner_whole : (off end k : ℕ) → off / 4096 < k → k + 1 < (end + 4095) / 4096 → covers_whole off end k ≡ true
+pub inner_whole : (off end k : ℕ) → off / 4096 < k → k + 1 < (end + 4095) / 4096 → covers_whole off end k ≡ true
 inner_whole off end k from to =
     let low : off ≤ 4096 * k = omega arith in
     let high : 4096 * k + 4096 ≤ end = omega arith in
     grind (arith, nat_tests)
 
-pub inner_part : (off end : ℕ) (d : Draft) (k : ℕ) → off / 4096 < k → k + 1 < (end + 4095) / 4096 → is_part off end d k ≡ false
-inner_part off end d k from to =
-    ap (λ b. is_there d k && not b) (inner_whole off end k from to) ∙ and-false (is_there d k)
+-- all pages of a range that isn't cleared get new bytes
+pub all_put : (s : Span) (d : Draft) → s.clears ≡ false
+    → pages_touched s.off s.end ≡ filter (λ page. gets_bytes (fate_on s d page)) (pages_touched s.off s.end)
+all_put s d lays = sym (filter_all (λ page. gets_bytes (fate_on s d page)) (pages_touched s.off s.end)
+    (λ page is. gets_all s.off s.end s.clears d page (touched_has s.off s.end page (of_touched s.off s.end page is)) lays))

@@ -5,11 +5,11 @@ use Rattle.std.specs.Ordering.{nat_cmp}
 use Rattle.std.specs.FinMap as finite
 use Rattle.std.specs.FinMap.Entries.{where_key}
 use Rattle.std.proofs.lemmas.Bool.{le-ltb}
-use Rattle.number_map.specs.NumberMap.{NumberMap, is_in}
+use Rattle.number_map.specs.NumberMap.{NumberMap, is_key_in}
 use Rattle.number_map.proofs.Laws.{same}
 use Rattle.row_format.specs.Prelude.{Place}
 use Rattle.blob_map.specs.Prelude.{PageMap}
-use Rattle.page_edits.specs.Ranges.{has_bytes_of}
+use Rattle.plan_drafts.specs.Edits.{has_bytes_of}
 
 none_kept : (es : List (ℕ × Place)) → where_key nat_cmp (λ page. false) es ≡ []
 none_kept [] = refl
@@ -21,7 +21,7 @@ none_retained m = same (finite.retain_keys m (λ key. true)) m (λ q. finite.get
 
 module _ (off end : ℕ) (kept : PageMap) (none : end ≤ off) where
   abbrev by : Bool → ℕ → Bool
-  by b page = b && is_in (off / 4096) ((end + 4095) / 4096) page
+  by b page = b && is_key_in (off / 4096) ((end + 4095) / 4096) page
 
   pub all_stay : kept ≡ finite.retain_keys kept (λ page. not (has_bytes_of off end page))
   all_stay = sym (ap (λ b. finite.retain_keys kept (λ page. not (by b page))) (le-ltb off end none)

@@ -5,7 +5,7 @@ use Rattle.std.specs.FinMap as finite
 use Rattle.row_format.specs.Prelude.{Place}
 use Rattle.plan_drafts.specs.declared.draft.Draft.{Draft}
 use Rattle.plan_rows.specs.declared.plan.ReadUnit.{ReadUnit}
-use Rattle.plan_drafts.specs.Edits.{Held, own_units}
+use Rattle.plan_drafts.specs.Edits.{Held, units_read}
 
 -- each page that was put has a taking of its own, one of the first n
 pub record IsNumbered (n : ℕ) (d : Draft) : Type 0 where
@@ -13,14 +13,14 @@ pub record IsNumbered (n : ℕ) (d : Draft) : Type 0 where
   pub alone : (page other taking : ℕ) → finite.get d.puts page ≡ Some taking → finite.get d.puts other ≡ Some taking → page ≡ other
 
 -- no page stands where it stood and was put as well
-abbrev pub AreApart : Draft → Type 0
-AreApart d = (page : ℕ) (place : Place) → finite.get d.kept page ≡ Some place → finite.get d.puts page ≡ None
+abbrev pub IsKeptOrPut : Draft → Type 0
+IsKeptOrPut d = (page : ℕ) (place : Place) → finite.get d.kept page ≡ Some place → finite.get d.puts page ≡ None
 
 -- what was put is to hold whole pages
-abbrev pub AreWhole : Held → Draft → Type 0
-AreWhole held d = (page taking : ℕ) → finite.get d.puts page ≡ Some taking → length (held taking) ≡ 4096
+abbrev pub PutsWholePages : Held → Draft → Type 0
+PutsWholePages held d = (page taking : ℕ) → finite.get d.puts page ≡ Some taking → length (held taking) ≡ 4096
 
 -- the old bytes of these places were read, and they are what the units hold
 pub record WereRead (at : ℕ → List ℕ) (places : List Place) (read : List ReadUnit) : Type 0 where
-  pub among : (unit : ℕ) → Contains (flat_map own_units places) unit → Contains (map (λ r. r.unit) read) unit
+  pub among : (unit : ℕ) → Contains (flat_map units_read places) unit → Contains (map (λ r. r.unit) read) unit
   pub seen : AllByRecursion (λ r. at r.unit ≡ r.bytes) read

@@ -1,27 +1,28 @@
 //! What touches, writes, zeros and truncates make of an object's pages while a transaction is planned.
 ghost use Rattle.std.specs.Prelude.{◌≡◌, ℕ, ◌+◌, ◌<◌, ◌≤◌, ◌^◌, ◌&&◌, List, length, map, not, filter, IfOk, OnOk};
-ghost use Rattle.std.specs.List.{AllByRecursion};
+ghost use Rattle.std.specs.List.{AllByRecursion, flat_map};
+ghost use Rattle.std.specs.Option.{option_to_list};
 ghost use Rattle.std.specs.Ordering.{nat_cmp};
 ghost use Rattle.std.specs.FinMap as finite;
 ghost use Rattle.std.specs.FinMap.Entries.{where_key};
 ghost use Rattle.object_model.specs.declared.op.Op.{Op};
 ghost use Rattle.object_model.specs.Prelude.{object_limit};
 ghost use Rattle.plan_rows.specs.declared.plan.ReadUnit.{ReadUnit};
-ghost use Rattle.plan_drafts.specs.Edits.{Held, covers_whole, grown, edit_of, end_of, is_touched, pages_taking, places_read, drafted, writes_of, IsWithin};
-ghost use Rattle.page_edits.specs.Ranges.{IsOnBytes, parts_of, put_in, has_bytes_of, places_on};
-ghost use Rattle.page_edits.specs.Takings.{IsNumbered, AreWhole};
-ghost use Rattle.page_edits.specs.Writes.{old_where, planned, with_puts, op_at, made_by, CanBeMade};
+ghost use Rattle.plan_drafts.specs.Edits.{Held, has_bytes_of, covers_whole, edit_of, is_touched, takes_unit, pages_taking, place_read, places_read, drafted, writes_of, IsInLimits};
+ghost use Rattle.page_edits.specs.Ranges.{IsOnBytes, fate_on};
+ghost use Rattle.page_edits.specs.Takings.{IsNumbered, PutsWholePages};
+ghost use Rattle.page_edits.specs.Writes.{old_where, taking_by, planned, with_puts, op_at, made_by, IsWriteBy, CanBeMade};
 
-use crate::parts::{pages_in_part, places_on};
-use crate::ranges::{covers_whole, pages_covered, pages_touched};
+use crate::fate::{fate_of, needs_old, pages_put, takes_unit};
+use crate::ranges::{pages_covered, pages_touched};
+use crate::spans::{Span, span_of};
 use crate::writes::{OldBytes, PageWrite};
 use blob_map::{PageMap, Place};
 use byte_maps::Items;
 use number_map::NumberMap;
 use object_model::Op;
-use plan_drafts::Draft;
+use plan_drafts::{Draft, Fate};
 use std::alloc::{AllocError, Global};
-use unit_fields::limits::OBJECT_LIMIT;
 
 /// What an edit writes, reads and leaves.
 #[derive(Drop)]
@@ -36,120 +37,45 @@ pub struct Edited {
     pub taken: u32,
 }
 
-// The bytes of an object that an operation lays anew or clears, and how long the object is then.
-#[derive(Drop)]
-struct Span {
-    off: u64,
-    end: u64,
-    clears: bool,
-    size: u64,
-}
-
-// Pages to be written, and how many units are taken then.
+// Pages to be written, the places where their old bytes are read, and how many units are taken then.
 #[derive(Drop)]
 struct Planned {
     writes: Items<PageWrite>,
+    places: Items<Place>,
     taken: u32,
 }
 
-// How long an object of so many bytes is with others laid over it: none leave it as it is.
-fn grown(size: u64, off: u64, len: u64) -> u64
-    requires { off + len ≤ object_limit }
-    ensures { result ≡ grown size off len }
+// Where a page stands, if some of its old bytes stay.
+fn place_read(draft: &Draft, fate: Fate, page: u32) -> Option<Place>
+    ensures { result ≡ place_read fate (finite.get draft.now.kept page) }
 {
-    if len == 0 { size } else { size.max(off + len) }
-}
-
-// So many bytes from an offset on.
-fn laid(size: u64, off: u64, len: u64, clears: bool) -> Span
-    requires { off + len ≤ object_limit }
-    ensures { result ≡ record { off = off; end = off + len; clears = clears; size = grown size off len } }
-{
-    Span {
-        off,
-        end: off + len,
-        clears,
-        size: grown(size, off, len),
+    if needs_old(fate) {
+        draft.kept.find(page)
+    } else {
+        None
     }
 }
 
-// What an operation lays anew of an object of so many bytes.
-fn span_of(op: &Op, size: u64) -> Span
-    requires on_bytes { IsOnBytes op.now }
-    requires within { IsWithin op.now }
-    ensures off { result.off ≡ (edit_of op.now size).off }
-    ensures end { result.end ≡ end_of (edit_of op.now size) }
-    ensures clears { result.clears ≡ (edit_of op.now size).clears }
-    ensures size { result.size ≡ (edit_of op.now size).size }
-    ensures limit { result.end ≤ object_limit }
+// Where the old bytes of a page are, by what becomes of it and by the place where they are read.
+fn old_where(fate: Fate, place: Option<Place>) -> OldBytes
+    ensures { result ≡ old_where fate place }
 {
-    match op {
-        Op::Write {
-            object: _,
-            off,
-            bytes,
-        } => laid(size, *off, bytes.len() as u64, false),
-        Op::Zero {
-            object: _,
-            off,
-            len,
-        } => laid(size, *off, *len, true),
-        Op::Truncate {
-            object: _,
-            size: to,
-        } => Span {
-            off: *to,
-            end: if *to < size { OBJECT_LIMIT } else { *to },
-            clears: true,
-            size: *to,
-        },
-        _ => Span {
-            off: 0,
-            end: 0,
-            clears: false,
-            size,
-        },
+    if let Fate::Changed { taking, old } = fate {
+        return if old { OldBytes::Put(taking) } else { OldBytes::Zeros };
     }
-}
-
-// The pages that get new bytes, in order.
-fn pages_put(alloc: Global, draft: &Draft, span: &Span) -> Result<Items<u32>, AllocError>
-    requires { span.now.end ≤ object_limit }
-    ensures { IfOk result (λ pages. pages ≡ put_in span.now.clears span.now.off span.now.end draft.now) }
-{
-    if span.clears {
-        return pages_in_part(alloc, draft, span.off, span.end);
-    }
-    let touched = pages_touched(span.off, span.end);
-    let mut pages = Items::new(alloc);
-    for page in touched.start..touched.end {
-        pages.push(page)?;
-    }
-    Ok(pages)
-}
-
-// The places whose old bytes are needed, in the order of their pages.
-fn places_in_part(alloc: Global, draft: &Draft, span: &Span) -> Result<Items<Place>, AllocError>
-    requires { span.now.end ≤ object_limit }
-    ensures { IfOk result (λ places. places ≡ places_on draft.now.kept (parts_of span.now.off span.now.end draft.now)) }
-{
-    let parts = pages_in_part(alloc, draft, span.off, span.end)?;
-    places_on(alloc, &draft.kept, parts.as_slice())
-}
-
-// Where the old bytes of a page are, of which a range gets new ones.
-fn old_bytes(draft: &Draft, off: u64, end: u64, page: u32) -> OldBytes
-    ensures { result ≡ old_where off end draft.now page }
-{
-    if covers_whole(off, end, page) {
-        return OldBytes::Zeros;
-    }
-    if draft.puts.get(page).is_some() {
-        return OldBytes::Put;
-    }
-    match draft.kept.find(page) {
+    match place {
         Some(place) => OldBytes::Read(place.unit),
         None => OldBytes::Zeros,
+    }
+}
+
+// The taking of a page's unit, where this is the next one.
+fn taking_by(fate: Fate, next: u32) -> u32
+    ensures { result ≡ taking_by fate next }
+{
+    match fate {
+        Fate::Changed { taking, old: _ } => taking,
+        Fate::Stays | Fate::Hole | Fate::Takes { .. } => next,
     }
 }
 
@@ -163,29 +89,33 @@ fn plan_pages(
     taken: u32,
 ) -> Result<Planned, AllocError>
     requires { taken + length pages.now < 2 ^ 32 }
-    ensures writes { IfOk result (λ p. p.writes ≡ planned at span.now.off span.now.end draft.now taken pages.now) }
-    ensures taken { IfOk result (λ p. p.taken ≡ taken + length (filter (λ page. not (finite.contains_key draft.now.puts page)) pages.now)) }
+    ensures writes { IfOk result (λ p. p.writes ≡ planned at span.now draft.now taken pages.now) }
+    ensures places { IfOk result (λ p. p.places
+        ≡ flat_map (λ page. option_to_list (place_read (fate_on span.now draft.now page) (finite.get draft.now.kept page))) pages.now) }
+    ensures taken { IfOk result (λ p. p.taken ≡ taken + length (filter (λ page. takes_unit (fate_on span.now draft.now page)) pages.now)) }
 {
-    let mut writes = Items::new(alloc);
-    let mut next = taken;
+    let mut planned = Planned {
+        writes: Items::new(alloc),
+        places: Items::new(alloc),
+        taken,
+    };
     for page in pages {
-        let old = old_bytes(draft, span.off, span.end, *page);
-        let put = draft.puts.get(*page).copied();
-        let taking = put.unwrap_or(next);
-        if put.is_none() {
-            next += 1;
-        }
-        writes.push(PageWrite {
+        let fate = fate_of(draft, span, *page);
+        let place = place_read(draft, fate, *page);
+        planned.writes.push(PageWrite {
             op: at,
             page: *page,
-            taking,
-            old,
+            taking: taking_by(fate, planned.taken),
+            old: old_where(fate, place),
         })?;
+        if let Some(place) = &place {
+            planned.places.push(*place)?;
+        }
+        if takes_unit(fate) {
+            planned.taken += 1;
+        }
     }
-    Ok(Planned {
-        writes,
-        taken: next,
-    })
+    Ok(planned)
 }
 
 // Takes away the pages that have bytes of a range, and gives them with their places. Where memory runs out the map is as it was.
@@ -260,21 +190,20 @@ pub fn edit(
     taken: u32,
 ) -> Result<Edited, AllocError>
     requires on_bytes { IsOnBytes op.now }
-    requires within { IsWithin op.now }
+    requires within { IsInLimits op.now }
     requires few { taken ≤ 2 ^ 24 }
     ensures draft { OnOk result (draft.new ≡ drafted (edit_of op.now draft.old.size) taken draft.old) }
     ensures taken { IfOk result (λ e. e.taken ≡ taken + length (pages_taking (edit_of op.now draft.old.size) draft.old)) }
     ensures places { IfOk result (λ e. e.places ≡ places_read (edit_of op.now draft.old.size) draft.old) }
     ensures left { IfOk result (λ e. e.left ≡ where_key nat_cmp (is_touched (edit_of op.now draft.old.size)) (finite.entries draft.old.kept)) }
-    ensures writes { IfOk result (λ e. (read : List ReadUnit) (held : Held) → AreWhole held draft.old
+    ensures writes { IfOk result (λ e. (read : List ReadUnit) (held : Held) → PutsWholePages held draft.old
         → map (made_by op.now read held) e.writes ≡ writes_of (edit_of op.now draft.old.size) read held taken draft.old) }
-    ensures of { IfOk result (λ e. AllByRecursion (λ w. w.op ≡ at) e.writes) }
+    ensures of { IfOk result (λ e. AllByRecursion (IsWriteBy at) e.writes) }
     ensures can { IfOk result (λ e. (ops : List Op) → at < length ops → op_at ops at ≡ op.now → IsNumbered taken draft.old
         → AllByRecursion (CanBeMade ops e.taken) e.writes) }
 {
     let span = span_of(op, draft.size);
     let pages = pages_put(alloc, draft, &span)?;
-    let places = places_in_part(alloc, draft, &span)?;
     let planned = plan_pages(alloc, at, draft, &span, pages.as_slice(), taken)?;
     let left = leave(alloc, &mut draft.kept, span.off, span.end)?;
     clear(alloc, &mut draft.puts, &span)?;
@@ -282,7 +211,7 @@ pub fn edit(
     draft.size = span.size;
     Ok(Edited {
         writes: planned.writes,
-        places,
+        places: planned.places,
         left,
         taken: planned.taken,
     })

@@ -10,25 +10,25 @@ ghost use Rattle.row_format.specs.Prelude.{Place};
 ghost use Rattle.store_image.specs.Prelude.{pages_of};
 ghost use Rattle.plan_drafts.specs.declared.draft.Draft.{Draft};
 ghost use Rattle.plan_rows.specs.declared.plan.ReadUnit.{ReadUnit};
-ghost use Rattle.plan_drafts.specs.Edits.{Edit, edit_of, is_touched, pages_taking, places_read, drafted, Held, writes_of, with_writes, EndsBelow, HoldBytes, bytes_after, IsWithin};
+ghost use Rattle.plan_drafts.specs.Edits.{Edit, edit_of, is_touched, pages_taking, places_read, drafted, Held, writes_of, with_writes, EndsBelow, HoldBytes, bytes_after, IsInLimits};
 ghost use Rattle.plan_drafts.specs.Plans.{most_units_of};
 ghost use Rattle.page_edits.specs.declared.writes.PageWrite.{PageWrite};
-ghost use Rattle.page_edits.specs.Takings.{IsNumbered, AreApart, AreWhole, WereRead};
-ghost use Rattle.page_edits.specs.Writes.{op_at, made_by, after_writes, CanBeMade};
+ghost use Rattle.page_edits.specs.Takings.{IsNumbered, IsKeptOrPut, PutsWholePages, WereRead};
+ghost use Rattle.page_edits.specs.Writes.{op_at, made_by, after_writes, IsWriteBy, CanBeMade};
 
 /// An operation takes at most so many units as are counted for it, and those of the whole of an object at most; and one with as many
 /// payload bytes as a transaction may have at most 258.
 pub fn an_edit_takes_few_units()
     ensures few { (op : Op) (size : ℕ) (d : Draft) → length (pages_taking (edit_of op size) d) ≤ most_units_of op }
-    ensures most { (op : Op) → IsWithin op → most_units_of op ≤ 32768 }
+    ensures most { (op : Op) → IsInLimits op → most_units_of op ≤ 32768 }
     ensures small { (op : Op) → payload_of op ≤ payload_limit → most_units_of op ≤ 258 }
 {}
 
 /// No page stands past the object's end, which is within the limit of an object. A page stays where it stood exactly if the edit doesn't touch
 /// it; and each page that was put was so before or has one of the takings that the edit takes, each of which puts one page.
 pub fn an_edit_moves_pages()
-    ensures long { (op : Op) (size : ℕ) → IsWithin op → size ≤ object_limit → (edit_of op size).size ≤ object_limit }
-    ensures ends { (op : Op) (n : ℕ) (d : Draft) → IsWithin op → d.size ≤ object_limit → EndsBelow d (pages_of d.size)
+    ensures long { (op : Op) (size : ℕ) → IsInLimits op → size ≤ object_limit → (edit_of op size).size ≤ object_limit }
+    ensures ends { (op : Op) (n : ℕ) (d : Draft) → IsInLimits op → d.size ≤ object_limit → EndsBelow d (pages_of d.size)
         → EndsBelow (drafted (edit_of op d.size) n d) (pages_of (edit_of op d.size).size) }
     ensures leaves { (e : Edit) (n : ℕ) (d : Draft) (page : ℕ) → is_touched e page ≡ true → finite.get (drafted e n d).kept page ≡ None }
     ensures stays { (e : Edit) (n : ℕ) (d : Draft) (page : ℕ) → is_touched e page ≡ false
@@ -40,20 +40,20 @@ pub fn an_edit_moves_pages()
     ensures put { (e : Edit) (n : ℕ) (d : Draft) (page taking : ℕ) → finite.get (drafted e n d).puts page ≡ Some taking
         → (finite.get d.puts page ≡ Some taking) ⊎ ((n ≤ taking) × (taking < n + length (pages_taking e d))) }
     ensures numbered { (e : Edit) (n : ℕ) (d : Draft) → IsNumbered n d → IsNumbered (n + length (pages_taking e d)) (drafted e n d) }
-    ensures apart { (e : Edit) (n : ℕ) (d : Draft) → AreApart d → AreApart (drafted e n d) }
+    ensures apart { (e : Edit) (n : ℕ) (d : Draft) → IsKeptOrPut d → IsKeptOrPut (drafted e n d) }
 {}
 
 /// The object has the size that the edit says, and its pages hold its new bytes where they held the old ones and those were read that it
 /// needs. What is put is whole pages, and the units of other takings are to hold what they were to hold.
 pub fn an_edit_makes_bytes()
-    ensures long { (op : Op) (old : List ℕ) → IsWithin op → length old ≤ object_limit
+    ensures long { (op : Op) (old : List ℕ) → IsInLimits op → length old ≤ object_limit
         → length (bytes_after op old) ≡ (edit_of op (length old)).size }
     ensures bytes { (at : ℕ → List ℕ) (held : Held) (op : Op) (old : List ℕ) (read : List ReadUnit) (n : ℕ) (d : Draft)
-        → IsWithin op → length old ≤ object_limit → d.size ≡ length old → HoldBytes at held d old → IsNumbered n d
+        → IsInLimits op → length old ≤ object_limit → d.size ≡ length old → HoldBytes at held d old → IsNumbered n d
         → WereRead at (places_read (edit_of op d.size) d) read
         → HoldBytes at (with_writes (writes_of (edit_of op d.size) read held n d) held) (drafted (edit_of op d.size) n d) (bytes_after op old) }
     ensures whole { (e : Edit) (read : List ReadUnit) (held : Held) (n : ℕ) (d : Draft) → AllByRecursion (λ r. length r.bytes ≡ 4096) read
-        → AreWhole held d → AreWhole (with_writes (writes_of e read held n d) held) (drafted e n d) }
+        → PutsWholePages held d → PutsWholePages (with_writes (writes_of e read held n d) held) (drafted e n d) }
     ensures others { (e : Edit) (read : List ReadUnit) (held : Held) (n : ℕ) (d : Draft) (taking : ℕ) → taking < n
         → ((page : ℕ) → ¬ (finite.get d.puts page ≡ Some taking)) → with_writes (writes_of e read held n d) held taking ≡ held taking }
 {}
@@ -62,7 +62,7 @@ pub fn an_edit_makes_bytes()
 /// can be made for so many takings they can for more.
 pub fn writes_make_contents()
     ensures one { (ops : List Op) (at : ℕ) (op : Op) (read : List ReadUnit) (held : Held) (n : ℕ) (d : Draft) (writes : List PageWrite)
-        → op_at ops at ≡ op → AllByRecursion (λ w. w.op ≡ at) writes → IsNumbered n d
+        → op_at ops at ≡ op → AllByRecursion (IsWriteBy at) writes → IsNumbered n d
         → map (made_by op read held) writes ≡ writes_of (edit_of op d.size) read held n d
         → after_writes ops read writes held ≡ with_writes (writes_of (edit_of op d.size) read held n d) held }
     ensures more { (ops : List Op) (read : List ReadUnit) (held : Held) (writes later : List PageWrite)

@@ -13,11 +13,12 @@
 #![tactic(auto)]
 
 mod edits;
+mod fate;
 mod laws;
 mod layouts;
 mod page_bytes;
-mod parts;
 mod ranges;
+mod spans;
 mod writes;
 
 pub use edits::{Edited, edit};

@@ -4,8 +4,9 @@ ghost use Rattle.std.specs.List.{AllByRecursion};
 ghost use Rattle.byte_maps.specs.Units.{zeros};
 ghost use Rattle.object_model.specs.Prelude.{object_limit};
 ghost use Rattle.plan_drafts.specs.Drafts.{none_held};
-ghost use Rattle.plan_drafts.specs.Edits.{bytes_read, page_after, IsWithin};
-ghost use Rattle.page_edits.specs.Writes.{old_bytes, whole_or_zeros, start_of, piece_of, bytes_made, after_writes, held_in, CanBeMade};
+ghost use Rattle.plan_drafts.specs.Edits.{end_of, bytes_read, page_after, IsInLimits};
+ghost use Rattle.page_edits.specs.declared.writes.OldBytes.TheVariants.{Put};
+ghost use Rattle.page_edits.specs.Writes.{widest, old_bytes, whole_or_zeros, held_old, bytes_made, after_writes, held_in, CanBeMade};
 
 use crate::ranges::{covers_whole, page_start, span_in};
 use crate::writes::{OldBytes, PageWrite};
@@ -64,7 +65,7 @@ fn own_bytes(alloc: Global, present: SharedBytes) -> Result<Vec<u8>, AllocError>
     }
 }
 
-// The old bytes of a page, to be changed, where its unit is to hold these so far.
+// The old bytes of a page, to be changed, where the unit that has them is to hold these so far.
 fn old_bytes(
     alloc: Global,
     read: &[ReadUnit],
@@ -72,13 +73,12 @@ fn old_bytes(
     old: OldBytes,
 ) -> Result<Vec<u8>, AllocError>
     requires { AllByRecursion (λ r. length r.bytes ≡ 4096) read.now }
-    ensures bytes { IfOk result (λ bytes. (held : ℕ → List ℕ) (taking : ℕ) → held taking ≡ present
-        → bytes.items ≡ old_bytes read.now held taking old) }
+    ensures bytes { IfOk result (λ bytes. bytes.items ≡ old_bytes read.now present old) }
     ensures whole { IfOk result (λ bytes. length bytes.items ≡ 4096) }
 {
     match old {
         OldBytes::Zeros => zero_unit(alloc),
-        OldBytes::Put => own_bytes(alloc, present),
+        OldBytes::Put(_) => own_bytes(alloc, present),
         OldBytes::Read(unit) => match bytes_read(read, unit) {
             Some(bytes) => copy_of(alloc, bytes.as_slice()),
             None => zero_unit(alloc),
@@ -116,7 +116,7 @@ fn page_patched(
     Ok(SharedBytes::from_vec(old)?)
 }
 
-// The bytes of a page that a write touches, where its unit is to hold these so far.
+// The bytes of a page that a write touches, where the unit that has its old bytes is to hold these so far.
 fn page_written(
     alloc: Global,
     bytes: &SharedBytes,
@@ -129,8 +129,7 @@ fn page_written(
     requires to { 4096 * write.now.page < off + length bytes.now }
     requires limit { off + length bytes.now ≤ object_limit }
     requires whole { AllByRecursion (λ r. length r.bytes ≡ 4096) read.now }
-    ensures { IfOk result (λ new. (held : ℕ → List ℕ) → held write.now.taking ≡ present
-        → new ≡ page_after off bytes.now write.now.page (old_bytes read.now held write.now.taking write.now.old)) }
+    ensures { IfOk result (λ new. new ≡ page_after off bytes.now write.now.page (old_bytes read.now present write.now.old)) }
 {
     if covers_whole(off, off + bytes.len() as u64, write.page) {
         page_shared(bytes, off, write.page)
@@ -164,7 +163,7 @@ fn none_held(alloc: Global, takings: u32) -> Result<Vec<SharedBytes>, AllocError
     Ok(held)
 }
 
-// What a write makes of its page, where its unit is to hold these bytes so far.
+// What a write makes of its page, where the unit that has its old bytes is to hold these so far.
 fn page_made(
     alloc: Global,
     op: &Op,
@@ -172,11 +171,11 @@ fn page_made(
     read: &[ReadUnit],
     present: SharedBytes,
 ) -> Result<SharedBytes, AllocError>
-    requires within { IsWithin op.now }
-    requires from { start_of op.now < 4096 * write.now.page + 4096 }
-    requires to { 4096 * write.now.page < start_of op.now + length (piece_of op.now) }
+    requires within { IsInLimits op.now }
+    requires from { (widest op.now).off < 4096 * write.now.page + 4096 }
+    requires to { 4096 * write.now.page < end_of (widest op.now) }
     requires whole { AllByRecursion (λ r. length r.bytes ≡ 4096) read.now }
-    ensures { IfOk result (λ new. (held : ℕ → List ℕ) → held write.now.taking ≡ present → new ≡ bytes_made op.now read.now held write.now) }
+    ensures { IfOk result (λ new. new ≡ bytes_made op.now read.now present write.now) }
 {
     match op {
         Op::Write {
@@ -204,6 +203,23 @@ fn page_made(
     }
 }
 
+// What the unit is to hold so far that has a page's old bytes, if the transaction put them. It is taken from there where the page is changed on
+// that unit, and shared else.
+fn present_of(held: &mut Vec<SharedBytes>, write: &PageWrite) -> Result<SharedBytes, AllocError>
+    requires { (taking : ℕ) → write.now.old ≡ Put taking → taking < length held.old.items }
+    ensures present { IfOk result (λ present. present ≡ held_old (held_in held.old.items) write.now.old) }
+    ensures others { (taking : ℕ) → ¬ (taking ≡ write.now.taking) → held_in held.new.items taking ≡ held_in held.old.items taking }
+    ensures count { length held.new.items ≡ length held.old.items }
+{
+    match write.old {
+        OldBytes::Put(from) if from == write.taking => {
+            Ok(mem::replace(&mut held[from as usize], SharedBytes::new()))
+        }
+        OldBytes::Put(from) => held[from as usize].clone(),
+        OldBytes::Zeros | OldBytes::Read(_) => Ok(SharedBytes::new()),
+    }
+}
+
 /// What each unit is to hold that a transaction takes, by the numbers of their takings, after the writes of its operations in order. A page
 /// that a write covers wholly shares its bytes. Of one in part, old bytes that were read are copied once; after that it is changed where it is.
 pub fn contents(
@@ -221,10 +237,9 @@ pub fn contents(
     let mut held = none_held(alloc, takings)?;
     for write in writes {
         let op = &ops[write.op as usize];
-        let taking = write.taking as usize;
-        let present = mem::replace(&mut held[taking], SharedBytes::new());
+        let present = present_of(&mut held, write)?;
         let new = page_made(alloc, op, write, read, present)?;
-        held[taking] = new;
+        held[write.taking as usize] = new;
     }
     Ok(Items::from_vec(held))
 }

@@ -2,7 +2,7 @@
 ghost use Rattle.std.specs.Prelude.{◌≡◌, ◌+◌, ◌-◌, ◌*◌, ◌/◌, ◌<◌, ◌≤◌, min};
 ghost use Rattle.std.specs.List.{range_with_len};
 ghost use Rattle.object_model.specs.Prelude.{object_limit};
-ghost use Rattle.plan_drafts.specs.Edits.{covers_whole, pages_touched};
+ghost use Rattle.plan_drafts.specs.Edits.{has_bytes_of, covers_whole, pages_touched};
 
 use std::ops::Range;
 
@@ -56,4 +56,11 @@ pub fn span_in(off: u64, end: u64, page: u32) -> Range<usize>
 {
     let start = page_start(page);
     off.saturating_sub(start) as usize..(end - start).min(PAGE_BYTES) as usize
+}
+
+/// Whether the page has bytes of a range.
+pub fn has_bytes_of(off: u64, end: u64, page: u32) -> bool
+    ensures { result ≡ has_bytes_of off end page }
+{
+    off < end && off / PAGE_BYTES <= u64::from(page) && u64::from(page) < end.div_ceil(PAGE_BYTES)
 }

@@ -7,8 +7,8 @@ use unit_fields::UnitNo;
 pub enum OldBytes {
     /// The page was a hole, or none of them stays.
     Zeros,
-    /// The transaction has put the page before: they are what its unit is to hold so far.
-    Put,
+    /// The transaction has put them: they are what the unit of this taking is to hold so far.
+    Put(u32),
     /// The page stands on this unit, which has to be read.
     Read(UnitNo),
 }

@@ -11,7 +11,7 @@ use Rattle.block_device.specs.Prelude.{Disk, HasRead}
 use Rattle.row_format.specs.Prelude.{Place, own}
 use Rattle.read_facts.specs.Prelude.{IsHeldAt, IsRead, AreGoodPlaces}
 use Rattle.read_facts.proofs.Places.{good_append}
-use Rattle.plan_rows.specs.Prelude.{own_units}
+use Rattle.plan_rows.specs.Prelude.{units_read}
 use Rattle.plan_rows.specs.declared.plan.ReadUnit.{ReadUnit}
 use Rattle.page_sources.specs.declared.parts.PartFail.{PartFail}
 use Rattle.page_sources.specs.declared.parts.PartFail.TheVariants as why
@@ -86,7 +86,7 @@ one_place_more memory d places i place read more r lt is grown front one =
     let reached : take (i + 1) places ≡ take i places ++ place ∷ [] = take_more places i place lt ∙ ap (λ p. take i places ++ p ∷ []) (sym is) in
     subst (λ ps. GivesPlaces memory d ps more) (sym reached) (subst (GivesPlaces memory d (take i places ++ place ∷ [])) (sym grown) (record {
       units = record {
-        units = map-append (λ q. q.unit) read (r ∷ []) ∙ ap₂ (λ (a b : List ℕ). a ++ b) front.units.units one.units.units ∙ sym (flat_map-append own_units (take i places) (place ∷ []));
+        units = map-append (λ q. q.unit) read (r ∷ []) ∙ ap₂ (λ (a b : List ℕ). a ++ b) front.units.units one.units.units ∙ sym (flat_map-append units_read (take i places) (place ∷ []));
         whole = all_both (λ q. length q.bytes ≡ 4096) read (r ∷ []) front.units.whole one.units.whole;
       };
       good = subst (AreGoodPlaces memory (IsHeldAt d) (take i places ++ place ∷ [])) (sym (map-append (λ q. q.bytes) read (r ∷ [])))

@@ -54,11 +54,11 @@ abbrev pub AreSums : ℕ → List ℕ → List ℕ → Type 0
 AreSums count bytes sums = (i : ℕ) → i < count → get_or sums i 0 ≡ crc32c (unit_at i bytes)
 
 -- the pages of a run, at least one and at most so many, and the checksums that they must have; or one page, whose unit is in memory
-abbrev pub IsRun : (ℕ → Option (List ℕ)) → List Extent → ℕ → ℕ → List ℕ → Run → Type 0
-IsRun memory pages first most sums (Hole count) = (0 < count) × (count ≤ most) × AreHoles pages first count
+abbrev pub IsPageRun : (ℕ → Option (List ℕ)) → List Extent → ℕ → ℕ → List ℕ → Run → Type 0
+IsPageRun memory pages first most sums (Hole count) = (0 < count) × (count ≤ most) × AreHoles pages first count
     × ((i : ℕ) → i < count → get_or sums i 0 ≡ crc32c (zeros 4096))
-IsRun memory pages first most sums (Units at count) = (0 < count) × (count ≤ most) × AreKept pages first at count sums × AreNotIn memory at count
-IsRun memory pages first most sums (InMemory unit) = IsOnUnit pages first unit × IsSome (memory unit)
+IsPageRun memory pages first most sums (Units at count) = (0 < count) × (count ≤ most) × AreKept pages first at count sums × AreNotIn memory at count
+IsPageRun memory pages first most sums (InMemory unit) = IsOnUnit pages first unit × IsSome (memory unit)
 
 -- a page that isn't a hole has bytes with the checksum that is kept for it
 abbrev pub IsChecked : List Extent → ℕ → List ℕ → Type 0

@@ -6,7 +6,7 @@ ghost use Rattle.crc32c_csum.specs.Prelude.{crc32c};
 ghost use Rattle.row_format.specs.Prelude.{own};
 ghost use Rattle.block_device.specs.Prelude.{HasRead, IsNotInFlight, Rose};
 ghost use Rattle.write_buffers.specs.Prelude.{memory_in};
-ghost use Rattle.page_sources.specs.Parts.{part_fail_of, HaveFewUnits, CanRead, AreHoles, AreKept, AreSums, IsRun, IsMismatch, IsUnitsFail, GivesPages, IsPartFail};
+ghost use Rattle.page_sources.specs.Parts.{part_fail_of, HaveFewUnits, CanRead, AreHoles, AreKept, AreSums, IsPageRun, IsMismatch, IsUnitsFail, GivesPages, IsPartFail};
 ghost use Rattle.page_sources.specs.declared.parts.PartFail.TheVariants.{Memory};
 
 use block_device::{Device, Failed};
@@ -15,11 +15,8 @@ use page_lookup::ShardPages;
 use read_facts::BadSum;
 use std::alloc::AllocError;
 use unit_fields::UnitNo;
-use unit_fields::limits::UNIT_BYTES;
+use unit_fields::limits::{PIECE_UNITS, UNIT_BYTES};
 use write_buffers::WriteBuffers;
-
-// The most units of one read.
-const MOST_UNITS: u32 = 64;
 
 // The checksum of a page of zeros.
 const ZEROS_SUM: u32 = 0x98f9_4189;
@@ -146,10 +143,10 @@ fn run_from(
 ) -> Run
     requires some { first < end }
     requires inside { HaveFewUnits pages.old }
-    ensures run { IsRun (memory_in buffers.now) pages.old first (min (end - first) 64) sums.new result }
+    ensures run { IsPageRun (memory_in buffers.now) pages.old first (min (end - first) 64) sums.new result }
     ensures kept { pages.new ≡ pages.old }
 {
-    let most = (end - first).min(MOST_UNITS);
+    let most = (end - first).min(PIECE_UNITS);
     match pages.find(first) {
         Some(place) => {
             let at = place.unit.number();

@@ -10,17 +10,17 @@ use crate::parts::{PartFail, read_units};
 use blob_map::Place;
 use block_device::Device;
 use byte_maps::Items;
-use bytes::Bytes;
+use bytes::Bytes as SharedBytes;
 use plan_rows::ReadUnit;
 use std::alloc::{AllocError, Global};
 use unit_fields::limits::UNIT_BYTES;
 use write_buffers::WriteBuffers;
 
 // The bytes of a buffer, to be shared.
-fn shared(buffer: Vec<u8>) -> Result<Bytes, AllocError>
+fn shared(buffer: Vec<u8>) -> Result<SharedBytes, AllocError>
     ensures { IfOk result (λ bytes. bytes ≡ buffer.items) }
 {
-    Ok(Bytes::from_vec(buffer)?)
+    Ok(SharedBytes::from_vec(buffer)?)
 }
 
 // Reads the old bytes of one place: those in memory are shared, and those of the device are compared.

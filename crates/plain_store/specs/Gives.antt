@@ -16,9 +16,9 @@ GivesBy view (Ok x) given = given ≡ Ok (view x)
 GivesBy view (Err fault) given = FailsAs fault given
 
 -- the result is what the definition gives
-abbrev pub Gives : {A : Type 0} → Result A ArgFault → Result A Refusal → Type 0
-Gives (Ok x) given = given ≡ Ok x
-Gives (Err fault) given = FailsAs fault given
+abbrev pub GivesResult : {A : Type 0} → Result A ArgFault → Result A Refusal → Type 0
+GivesResult (Ok x) given = given ≡ Ok x
+GivesResult (Err fault) given = FailsAs fault given
 
 -- the same of a call that takes no memory
 abbrev pub GivesExactly : {X A : Type 0} → (X → A) → Result X Refusal → Result A Refusal → Type 0
@@ -36,7 +36,7 @@ Passes (Ok done) given = IsOk given
 Passes (Err fault) given = FailsAs fault given
 
 -- a call finds what is there, and refuses where nothing is
-abbrev pub Finds : {A : Type 0} → Result A ArgFault → Option A → Type 0
-Finds (Ok x) there = there ≡ Some x
-Finds (Err Memory) there = Unit {0}
-Finds (Err (Refused refusal)) there = (there ≡ None) × (refusal ≡ NoObject)
+abbrev pub GivesFound : {A : Type 0} → Result A ArgFault → Option A → Type 0
+GivesFound (Ok x) there = there ≡ Some x
+GivesFound (Err Memory) there = Unit {0}
+GivesFound (Err (Refused refusal)) there = (there ≡ None) × (refusal ≡ NoObject)

@@ -2,7 +2,7 @@
 ghost use Rattle.std.specs.Prelude.{◌≢◌, Some};
 ghost use Rattle.object_model.specs.declared.op.Op.TheVariants.{MkColl, RmColl};
 ghost use Rattle.object_model.specs.Prelude.{effect, effect_on, effects};
-ghost use Rattle.plain_store.specs.Gives.{Applies, Gives};
+ghost use Rattle.plain_store.specs.Gives.{Applies, GivesResult};
 
 use crate::collection::*;
 use crate::fault::ArgFault;
@@ -55,7 +55,7 @@ fn change(alloc: Global, op: &Op, c: &mut Collection) -> Result<(), ArgFault>
 
 // The operations on a collection that is there.
 fn effect_on(alloc: Global, op: &Op, c: Collection) -> Result<Option<Collection>, ArgFault>
-    ensures { Gives result (effect_on op.now c) }
+    ensures { GivesResult result (effect_on op.now c) }
 {
     let mut c = c;
     match op {
@@ -71,7 +71,7 @@ fn effect_on(alloc: Global, op: &Op, c: Collection) -> Result<Option<Collection>
 
 /// The effect of an operation. The collection is consumed: a refusal drops it.
 pub fn effect(alloc: Global, op: &Op, c: Option<Collection>) -> Result<Option<Collection>, ArgFault>
-    ensures { Gives result (effect op.now c) }
+    ensures { GivesResult result (effect op.now c) }
 {
     match (c, op) {
         (Some(c), op) => effect_on(alloc, op, c),
@@ -86,7 +86,7 @@ pub fn effects(
     ops: &[Op],
     start: Option<Collection>,
 ) -> Result<Option<Collection>, ArgFault>
-    ensures { Gives result (effects ops.now start) }
+    ensures { GivesResult result (effects ops.now start) }
 {
     let mut c = start;
     for op in ops {

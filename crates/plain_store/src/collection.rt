@@ -4,7 +4,7 @@ ghost use Rattle.std.specs.FinMap as finite;
 ghost use Rattle.object_model.specs.declared.op.Op.TheVariants as does;
 ghost use Rattle.object_model.specs.declared.op.Refusal.TheVariants.{BadRange};
 ghost use Rattle.object_model.specs.Prelude.{empty_object, effect_on, any_value_long, is_same};
-ghost use Rattle.plain_store.specs.Gives.{Applies, Finds, GivesBy};
+ghost use Rattle.plain_store.specs.Gives.{Applies, GivesFound, GivesBy};
 
 use crate::fault::ArgFault;
 use crate::object::{
@@ -69,7 +69,7 @@ fn set_bytes(object: &mut PlainObject, bytes: Vec<u8>)
 
 // A copy of the object, which is refused where it is missing.
 fn found(alloc: Global, c: &Collection, name: &Name) -> Result<PlainObject, ArgFault>
-    ensures { Finds result (finite.get c.now name.now) }
+    ensures { GivesFound result (finite.get c.now name.now) }
 {
     match c.get(name.as_slice()) {
         Some(object) => object.duplicate(alloc).map_err(ArgFault::from),

@@ -2,7 +2,7 @@
 ghost use Rattle.std.specs.Prelude.{◌≡◌, IfOk, OnErr, option_copied};
 ghost use Rattle.std.specs.FinMap as finite;
 ghost use Rattle.object_model.specs.Prelude.{effects, transaction_effect, object_under, submitted_effect, found_collection, found_object};
-ghost use Rattle.plain_store.specs.Gives.{Gives, GivesExactly, Applies, Passes};
+ghost use Rattle.plain_store.specs.Gives.{GivesResult, GivesExactly, Applies, Passes};
 
 use crate::applying::effects;
 use crate::collection::Collection;
@@ -91,7 +91,7 @@ impl Plain {
         alloc: Global,
         change: &Transaction,
     ) -> Result<Option<Collection>, ArgFault>
-        ensures { Gives result (effects change.now.ops (finite.get self.now change.now.coll)) }
+        ensures { GivesResult result (effects change.now.ops (finite.get self.now change.now.coll)) }
     {
         let start = copy_of(alloc, &self.colls, change.coll())?;
         effects(alloc, change.ops(), start)

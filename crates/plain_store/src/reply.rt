@@ -5,7 +5,7 @@ ghost use Rattle.object_model.specs.declared.command.Answer.TheVariants as answe
 ghost use Rattle.object_model.specs.declared.command.Command.TheVariants as ask;
 ghost use Rattle.object_model.specs.declared.op.Refusal.TheVariants.{BadRange};
 ghost use Rattle.crc32c_csum.specs.Prelude.{crc32c};
-ghost use Rattle.object_model.specs.Prelude.{object_limit, reply_of, value_of};
+ghost use Rattle.object_model.specs.Prelude.{object_limit, read_reply, reply_of, value_of};
 
 use crate::collection::Collection;
 use crate::fault::ArgFault;
@@ -13,12 +13,12 @@ use crate::object::PlainObject;
 use crate::plain::Plain;
 use byte_maps::{ByteMap, Bytes, Duplicate, Items};
 use crc32c_csum::crc32c;
-use object_model::{Answer, Command, Refusal, Transaction, ends_too_far};
+use object_model::{Answer, Command, Read, Refusal, Transaction, ends_too_far};
 use std::alloc::{AllocError, Global};
 use unit_fields::Name;
 
 // A range of an object's bytes, cut at its size.
-fn read(alloc: Global, object: &PlainObject, off: u64, len: u64) -> Result<Answer, AllocError>
+fn bytes_of(alloc: Global, object: &PlainObject, off: u64, len: u64) -> Result<Answer, AllocError>
     ensures { IfOk result (λ a. a ≡
         (if nat_lt object_limit (off + len) then answer.Refused BadRange else answer.Bytes (take len (drop off object.now.bytes)))) }
 {
@@ -78,45 +78,52 @@ impl Plain {
         }
     }
 
+    fn read_reply(&self, alloc: Global, read: &Read) -> Result<Answer, AllocError>
+        ensures { IfOk result (λ a. a ≡ read_reply read.now self.now) }
+    {
+        match read {
+            Read::Bytes {
+                coll,
+                object,
+                off,
+                len,
+            } => match self.object(coll, object) {
+                Ok(object) => bytes_of(alloc, object, *off, *len),
+                Err(refusal) => Ok(Answer::Refused(refusal)),
+            },
+            Read::Sum { coll, object } => match self.object(coll, object) {
+                Ok(object) => Ok(sum(object)),
+                Err(refusal) => Ok(Answer::Refused(refusal)),
+            },
+            Read::Stat { coll, object } => match self.object(coll, object) {
+                Ok(object) => Ok(Answer::Size(object.bytes.len() as u64)),
+                Err(refusal) => Ok(Answer::Refused(refusal)),
+            },
+            Read::GetAttr { coll, object, name } => match self.object(coll, object) {
+                Ok(object) => value_of(alloc, &object.attrs, name),
+                Err(refusal) => Ok(Answer::Refused(refusal)),
+            },
+            Read::OmapGet { coll, object, key } => match self.object(coll, object) {
+                Ok(object) => value_of(alloc, &object.omap, key),
+                Err(refusal) => Ok(Answer::Refused(refusal)),
+            },
+            Read::OmapHeader { coll, object } => match self.object(coll, object) {
+                Ok(object) => header_of(alloc, object),
+                Err(refusal) => Ok(Answer::Refused(refusal)),
+            },
+            Read::List { coll } => match self.collection(coll) {
+                Ok(c) => names(alloc, c),
+                Err(refusal) => Ok(Answer::Refused(refusal)),
+            },
+        }
+    }
     /// The answer to a command: to a transaction whether it would be accepted, without any effect.
     pub fn reply(&self, alloc: Global, command: &Command) -> Result<Answer, AllocError>
         ensures { IfOk result (λ a. a ≡ reply_of command.now self.now) }
     {
         match command {
             Command::Change(change) => self.accepts(alloc, change),
-            Command::Read {
-                coll,
-                object,
-                off,
-                len,
-            } => match self.object(coll, object) {
-                Ok(object) => read(alloc, object, *off, *len),
-                Err(refusal) => Ok(Answer::Refused(refusal)),
-            },
-            Command::Sum { coll, object } => match self.object(coll, object) {
-                Ok(object) => Ok(sum(object)),
-                Err(refusal) => Ok(Answer::Refused(refusal)),
-            },
-            Command::Stat { coll, object } => match self.object(coll, object) {
-                Ok(object) => Ok(Answer::Size(object.bytes.len() as u64)),
-                Err(refusal) => Ok(Answer::Refused(refusal)),
-            },
-            Command::GetAttr { coll, object, name } => match self.object(coll, object) {
-                Ok(object) => value_of(alloc, &object.attrs, name),
-                Err(refusal) => Ok(Answer::Refused(refusal)),
-            },
-            Command::OmapGet { coll, object, key } => match self.object(coll, object) {
-                Ok(object) => value_of(alloc, &object.omap, key),
-                Err(refusal) => Ok(Answer::Refused(refusal)),
-            },
-            Command::OmapHeader { coll, object } => match self.object(coll, object) {
-                Ok(object) => header_of(alloc, object),
-                Err(refusal) => Ok(Answer::Refused(refusal)),
-            },
-            Command::List { coll } => match self.collection(coll) {
-                Ok(c) => names(alloc, c),
-                Err(refusal) => Ok(Answer::Refused(refusal)),
-            },
+            Command::Read(read) => self.read_reply(alloc, read),
         }
     }
 }

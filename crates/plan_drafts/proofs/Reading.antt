@@ -1,5 +1,5 @@
 -- The places whose old bytes a transaction asks for are those of pages of objects that are there.
-use Rattle.std.proofs.Common.{◌≡◌, ◌⊎◌, inl, inr, ℕ, Bool, true, false, cond, not, List, [], ◌∷◌, ◌++◌, map, filter, Option, Some, None, refl, sym, ap, subst, ◌∙◌}
+use Rattle.std.proofs.Common.{◌≡◌, ◌⊎◌, inl, inr, ℕ, Bool, true, false, cond, List, [], ◌∷◌, ◌++◌, map, Option, Some, None, refl, sym, ap, subst, ◌∙◌}
 use Rattle.std.specs.List.{AllByRecursion, flat_map}
 use Rattle.std.specs.Option.{option_map, option_map_or, option_to_list}
 use Rattle.std.specs.Ordering.{nat_cmp, is_eq}
@@ -21,7 +21,7 @@ use Rattle.unit_allocator.specs.Prelude.{Space}
 use Rattle.plan_drafts.specs.declared.draft.Draft.{Draft}
 use Rattle.plan_rows.specs.declared.plan.Plan.{Plan}
 use Rattle.plan_rows.specs.declared.plan.ReadUnit.{ReadUnit}
-use Rattle.plan_drafts.specs.Prelude.{Edit, end_of, is_touched, is_in_part, pages_touched, drafted, own_units, places_read, Layout, HasLayout, or_empty, object_of, or_new, edit_on, draft_after, places_on, CollDraft, at_name, with_op, places_of, IsTaken, AreTaken, draft_of, Begins, AsksFor, Plans}
+use Rattle.plan_drafts.specs.Prelude.{Edit, fate_of, is_left, needs_old, pages_put, drafted, units_read, place_read, places_read, Layout, HasLayout, or_empty, object_of, or_new, edit_on, draft_after, places_on, CollDraft, at_name, with_op, places_of, IsTaken, AreTaken, draft_of, Begins, AsksFor, Plans}
 
 -- ---- names
 
@@ -59,35 +59,37 @@ module _ (layouts : List ℕ → Option Layout) (d : CollDraft) (kept : AreKept 
 
   still_kept : (e : Edit) (n : ℕ) (x : Draft) (page : ℕ) (place : Place) → finite.get (drafted e n x).kept page ≡ Some place
       → finite.get x.kept page ≡ Some place
-  still_kept e n x page place is = by (not (is_touched e page)) (sym (finite.get-retain_keys x.kept (λ page. not (is_touched e page)) page
-      (λ other tied. ap (λ q. not (is_touched e q)) (sym (nat_cmp-IsAntisymmetric page other tied)))) ∙ is)
+  still_kept e n x page place is = by (is_left (fate_of e x page)) (sym (finite.get-retain_keys x.kept (λ page. is_left (fate_of e x page)) page
+      (λ other tied. ap (λ q. is_left (fate_of e x q)) (sym (nat_cmp-IsAntisymmetric page other tied)))) ∙ is)
     where
       by : (b : Bool) → cond b (finite.get x.kept page) None ≡ Some place → finite.get x.kept page ≡ Some place
       by true is = is
       by false is = absurd cc
 
-  after_kept : (op : Op) (o : List ℕ) (y : Draft) (page : ℕ) (place : Place) → IsName o → draft_after op d.taken (d.layout o) ≡ Some y
-      → finite.get y.kept page ≡ Some place → finite.get (or_empty (layouts o)).pages page ≡ Some place
-  after_kept op o y page place name is at = by op is
+  after_kept : (op : Op) (y : Draft) (page : ℕ) (place : Place) → IsName (object_of op) → draft_after op d ≡ Some y
+      → finite.get y.kept page ≡ Some place → finite.get (or_empty (layouts (object_of op))).pages page ≡ Some place
+  after_kept op y page place named is at = by op named is
     where
-      edited : (e : Edit) → Some (drafted e d.taken (or_new (d.layout o))) ≡ Some y → finite.get (or_empty (layouts o)).pages page ≡ Some place
-      edited e is =
+      edited : (o : List ℕ) → IsName o → (e : Edit) → Some (drafted e d.taken (or_new (d.layout o))) ≡ Some y
+          → finite.get (or_empty (layouts o)).pages page ≡ Some place
+      edited o name e is =
           let same : drafted e d.taken (or_new (d.layout o)) ≡ y = cc in
           new_kept o page place name (still_kept e d.taken (or_new (d.layout o)) page place (ap (λ (z : Draft). finite.get z.kept page) same ∙ at))
 
-      stays : (x : Option Edit) → option_map_or (λ e. Some (drafted e d.taken (or_new (d.layout o)))) x (d.layout o) ≡ Some y
+      stays : (o : List ℕ) → IsName o → (x : Option Edit)
+          → option_map_or (λ e. Some (drafted e d.taken (or_new (d.layout o)))) x (d.layout o) ≡ Some y
           → finite.get (or_empty (layouts o)).pages page ≡ Some place
-      stays None is = kept o y page place name is at
-      stays (Some e) is = edited e is
+      stays o name None is = kept o y page place name is at
+      stays o name (Some e) is = edited o name e is
 
-      by : (op : Op) → draft_after op d.taken (d.layout o) ≡ Some y → finite.get (or_empty (layouts o)).pages page ≡ Some place
-      by (Remove u) is = absurd cc
-      by op is = stays (edit_on op (d.layout o)) is
+      by : (op : Op) → IsName (object_of op) → draft_after op d ≡ Some y → finite.get (or_empty (layouts (object_of op))).pages page ≡ Some place
+      by (Remove u) name is = absurd cc
+      by op name is = stays (object_of op) name (edit_on op (d.layout (object_of op))) is
 
   kept_after : (op : Op) → AreKept layouts (with_op op d)
-  kept_after op o x page place name is at = elim (at_cases (object_of op) (draft_after op d.taken (d.layout (object_of op))) d.layout o) [
+  kept_after op o x page place name is at = elim (at_cases (object_of op) (draft_after op d) d.layout o) [
     | inl mine ↦ subst (λ u. finite.get (or_empty (layouts u)).pages page ≡ Some place) (sym mine.0)
-        (after_kept op (object_of op) x page place (subst IsName mine.0 name) (sym mine.1 ∙ is) at)
+        (after_kept op x page place (subst IsName mine.0 name) (sym mine.1 ∙ is) at)
     | inr other ↦ kept o x page place name (sym other ∙ is) at
   ]
 
@@ -111,33 +113,34 @@ module _ (w : Width) (rows : Rows) (c : List ℕ) (layouts : List ℕ → Option
       by (Some l) stands is = record { coll = c; object = o; page = page; at = (stands.1 page place).0 is; size = l.size; there = stands.0 }
 
   module _ (d : CollDraft) (kept : AreKept layouts d) where
-    at_page : (o : List ℕ) (page : ℕ) → IsName o → AllByRecursion (IsPageOf w rows) (option_to_list (finite.get (or_new (d.layout o)).kept page))
-    at_page o page name = by (finite.get (or_new (d.layout o)).kept page) refl
+    at_page : (o : List ℕ) (e : Edit) (page : ℕ) → IsName o → AllByRecursion (IsPageOf w rows) (option_to_list (place_read (fate_of e (or_new (d.layout o)) page) (finite.get (or_new (d.layout o)).kept page)))
+    at_page o e page name = by (needs_old (fate_of e (or_new (d.layout o)) page)) (finite.get (or_new (d.layout o)).kept page) refl
       where
-        by : (x : Option Place) → finite.get (or_new (d.layout o)).kept page ≡ x → AllByRecursion (IsPageOf w rows) (option_to_list x)
-        by None is = tt
-        by (Some place) is = (page_of_layout o page place name (new_kept layouts d kept o page place name is), tt)
+        by : (b : Bool) (x : Option Place) → finite.get (or_new (d.layout o)).kept page ≡ x → AllByRecursion (IsPageOf w rows) (option_to_list (cond b x None))
+        by false x is = tt
+        by true None is = tt
+        by true (Some place) is = (page_of_layout o page place name (new_kept layouts d kept o page place name is), tt)
 
-    at_pages : (o : List ℕ) → IsName o → (pages : List ℕ)
-        → AllByRecursion (IsPageOf w rows) (flat_map (λ page. option_to_list (finite.get (or_new (d.layout o)).kept page)) pages)
-    at_pages o name [] = tt
-    at_pages o name (page ∷ pages) = both (option_to_list (finite.get (or_new (d.layout o)).kept page)) _ (at_page o page name) (at_pages o name pages)
+    at_pages : (o : List ℕ) (e : Edit) → IsName o → (pages : List ℕ)
+        → AllByRecursion (IsPageOf w rows) (flat_map (λ page. option_to_list (place_read (fate_of e (or_new (d.layout o)) page) (finite.get (or_new (d.layout o)).kept page))) pages)
+    at_pages o e name [] = tt
+    at_pages o e name (page ∷ pages) = both (option_to_list (place_read (fate_of e (or_new (d.layout o)) page) (finite.get (or_new (d.layout o)).kept page))) _ (at_page o e page name) (at_pages o e name pages)
       where
         both : (xs ys : List Place) → AllByRecursion (IsPageOf w rows) xs → AllByRecursion (IsPageOf w rows) ys → AllByRecursion (IsPageOf w rows) (xs ++ ys)
         both [] ys a b = b
         both (x ∷ xs) ys a b = (a.0, both xs ys a.1 b)
 
-    on_places : (op : Op) → IsTaken d op → AllByRecursion (IsPageOf w rows) (places_on op (d.layout (object_of op)))
+    on_places : (op : Op) → IsTaken d op → AllByRecursion (IsPageOf w rows) (places_on op d)
     on_places op taken = by op taken
       where
         of_edit : (o : List ℕ) (e : Edit) → IsName o → AllByRecursion (IsPageOf w rows) (places_read e (or_new (d.layout o)))
-        of_edit o e name = at_pages o name (filter (is_in_part e (or_new (d.layout o))) (pages_touched e.off (end_of e)))
+        of_edit o e name = at_pages o e name (pages_put e (or_new (d.layout o)))
 
         either : (o : List ℕ) (x : Option Edit) → IsName o → AllByRecursion (IsPageOf w rows) (option_map_or (λ e. places_read e (or_new (d.layout o))) x [])
         either o None name = tt
         either o (Some e) name = of_edit o e name
 
-        by : (op : Op) → IsTaken d op → AllByRecursion (IsPageOf w rows) (places_on op (d.layout (object_of op)))
+        by : (op : Op) → IsTaken d op → AllByRecursion (IsPageOf w rows) (places_on op d)
         by MkColl taken = tt
         by RmColl taken = tt
         by (Clone o to) taken = absurd taken
@@ -159,7 +162,7 @@ module _ (w : Width) (rows : Rows) (c : List ℕ) (layouts : List ℕ → Option
   all_places : (ops : List Op) (d : CollDraft) → AreKept layouts d → AreTaken ops d → AllByRecursion (IsPageOf w rows) (places_of ops d)
   all_places [] d kept taken = tt
   all_places (op ∷ ops) d kept taken =
-      both (places_on op (d.layout (object_of op))) (places_of ops (with_op op d)) (on_places d kept op taken.0)
+      both (places_on op d) (places_of ops (with_op op d)) (on_places d kept op taken.0)
       (all_places ops (with_op op d) (kept_after layouts d kept op) taken.1)
     where
       both : (xs ys : List Place) → AllByRecursion (IsPageOf w rows) xs → AllByRecursion (IsPageOf w rows) ys → AllByRecursion (IsPageOf w rows) (xs ++ ys)
@@ -183,7 +186,7 @@ asked_places w change rows need places asks = subst (AllByRecursion (IsPageOf w 
 
 -- so a page stands on each of their units
 pub units_have_pages : (w : Width) (rows : Rows) (places : List Place) → AllByRecursion (IsPageOf w rows) places
-    → AllByRecursion (HasPage w rows) (flat_map own_units places)
+    → AllByRecursion (HasPage w rows) (flat_map units_read places)
 units_have_pages w rows [] all = tt
 units_have_pages w rows (own unit csum ∷ places) all = (
   record {

@@ -75,21 +75,6 @@ edit_on (Zero o off len) x = Some (edit_of (Zero o off len) (or_new x).size)
 edit_on (Truncate o to) (Some x) = Some (edit_of (Truncate o to) x.size)
 edit_on op x = None
 
--- what an operation makes of it, where so many units had been taken before: it goes, is edited, or stays as it is
-abbrev pub draft_after : Op → ℕ → Option Draft → Option Draft
-draft_after (Remove o) n x = None
-draft_after op n x = option_map_or (λ e. Some (drafted e n (or_new x))) (edit_on op x) x
-
--- how many units it takes, the places whose old bytes it needs, and what is written
-abbrev pub units_on : Op → Option Draft → ℕ
-units_on op x = option_map_or (λ e. length (pages_taking e (or_new x))) (edit_on op x) 0
-
-abbrev pub places_on : Op → Option Draft → List Place
-places_on op x = option_map_or (λ e. places_read e (or_new x)) (edit_on op x) []
-
-abbrev pub writes_on : Op → List ReadUnit → Held → ℕ → Option Draft → List (ℕ × List ℕ)
-writes_on op read held n x = option_map_or (λ e. writes_of e read held n (or_new x)) (edit_on op x) []
-
 -- ---- the collection
 
 -- Whether it is there; its objects, each missing or so long and with its pages there; their values; and how many units were taken.
@@ -98,6 +83,31 @@ pub record CollDraft : Type 0 where
   pub layout : List ℕ → Option Draft
   pub value : List ℕ → ValueKey → Option (List ℕ)
   pub taken : ℕ
+
+-- ---- what one operation makes of it
+
+-- the object of the operation, as it is before it
+abbrev pub object_before : Op → CollDraft → Option Draft
+object_before op d = d.layout (object_of op)
+
+-- what the operation makes of its object: it goes, is edited, or stays as it is
+abbrev pub draft_after : Op → CollDraft → Option Draft
+draft_after (Remove o) d = None
+draft_after op d = option_map_or (λ e. Some (drafted e d.taken (or_new (object_before op d)))) (edit_on op (object_before op d)) (object_before op d)
+
+-- and of that object's values
+abbrev pub values_on : Op → CollDraft → ValueKey → Option (List ℕ)
+values_on op d k = value_after op k (d.value (object_of op) k)
+
+-- how many units it takes, the places whose old bytes it needs, and what is written
+abbrev pub units_on : Op → CollDraft → ℕ
+units_on op d = option_map_or (λ e. length (pages_taking e (or_new (object_before op d)))) (edit_on op (object_before op d)) 0
+
+abbrev pub places_on : Op → CollDraft → List Place
+places_on op d = option_map_or (λ e. places_read e (or_new (object_before op d))) (edit_on op (object_before op d)) []
+
+abbrev pub writes_on : Op → List ReadUnit → Held → CollDraft → List (ℕ × List ℕ)
+writes_on op read held d = option_map_or (λ e. writes_of e read held d.taken (or_new (object_before op d))) (edit_on op (object_before op d)) []
 
 abbrev pub there_after : Op → Bool → Bool
 there_after MkColl there = true
@@ -112,9 +122,9 @@ at_name o x all u = if is_same u o then x else all u
 abbrev pub with_op : Op → CollDraft → CollDraft
 with_op op d = record {
   there = there_after op d.there;
-  layout = at_name (object_of op) (draft_after op d.taken (d.layout (object_of op))) d.layout;
-  value = at_name (object_of op) (λ k. value_after op k (d.value (object_of op) k)) d.value;
-  taken = d.taken + units_on op (d.layout (object_of op));
+  layout = at_name (object_of op) (draft_after op d) d.layout;
+  value = at_name (object_of op) (values_on op d) d.value;
+  taken = d.taken + units_on op d;
 }
 
 -- after operations, one after the other
@@ -125,11 +135,11 @@ with_ops (op ∷ ops) d = with_ops ops (with_op op d)
 -- the places whose old bytes they need, in the order of operations and pages
 abbrev pub places_of : List Op → CollDraft → List Place
 places_of [] d = []
-places_of (op ∷ ops) d = places_on op (d.layout (object_of op)) ++ places_of ops (with_op op d)
+places_of (op ∷ ops) d = places_on op d ++ places_of ops (with_op op d)
 
 -- what the units that are taken are to hold after an operation, and after operations
 abbrev pub held_after : List ReadUnit → Op → CollDraft → Held → Held
-held_after read op d held = with_writes (writes_on op read held d.taken (d.layout (object_of op))) held
+held_after read op d held = with_writes (writes_on op read held d) held
 
 abbrev pub held_by : List ReadUnit → List Op → CollDraft → Held → Held
 held_by read [] d held = held

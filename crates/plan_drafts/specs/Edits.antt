@@ -1,5 +1,5 @@
 -- What an operation makes of an object's pages while a transaction is planned: which get new bytes, each on a unit, and which become holes.
-use Rattle.std.specs.Prelude.{◌≡◌, ℕ, ◌+◌, ◌/◌, ◌<◌, ◌==◌, ◌&&◌, ◌||◌, nat_lt, not, Bool, true, false, List, [], ◌∷◌, map, filter, Some, None, unwrap_or, if◌then◌else◌}
+use Rattle.std.specs.Prelude.{◌≡◌, ℕ, ◌+◌, ◌/◌, ◌<◌, ◌==◌, ◌&&◌, ◌||◌, nat_lt, not, Bool, true, false, List, [], ◌∷◌, map, filter, Option, Some, None, unwrap_or, if◌then◌else◌}
 use Rattle.std.specs.List.{flat_map}
 use Rattle.std.specs.Option.{option_map_or, option_to_list}
 use Rattle.std.specs.FinMap as finite
@@ -7,10 +7,12 @@ use Rattle.byte_maps.specs.Units.{zeros}
 use Rattle.crc32c_csum.specs.Prelude.{crc32c}
 use Rattle.row_format.specs.Prelude.{Place, own}
 use Rattle.store_image.specs.Prelude.{page_bytes}
-use Rattle.number_map.specs.NumberMap.{NumberMap, is_in}
+use Rattle.number_map.specs.NumberMap.{NumberMap, is_key_in}
 use Rattle.plan_drafts.specs.declared.draft.Draft.{Draft}
+use Rattle.plan_drafts.specs.declared.fate.Fate.{Fate}
+use Rattle.plan_drafts.specs.declared.fate.Fate.TheVariants.{Stays, Hole, Changed, Takes}
 use Rattle.plan_rows.specs.declared.plan.ReadUnit.{ReadUnit}
-pub use Rattle.plan_rows.specs.Edits.{covers_whole, pages_touched, page_after, Edit, end_of, grown, edit_of, is_cleared, own_units, bytes_read, bytes_in, bytes_after, IsWithin}
+pub use Rattle.plan_rows.specs.Edits.{covers_whole, pages_touched, page_after, Edit, end_of, grown, edit_of, is_cleared, units_read, bytes_read, old_bytes_in, bytes_after, IsInLimits}
 
 -- ---- pages
 
@@ -18,29 +20,81 @@ pub use Rattle.plan_rows.specs.Edits.{covers_whole, pages_touched, page_after, E
 abbrev pub is_there : Draft → ℕ → Bool
 is_there d page = finite.contains_key d.kept page || finite.contains_key d.puts page
 
--- and only some of its bytes are laid over
-abbrev pub is_in_part : Edit → Draft → ℕ → Bool
-is_in_part e d page = is_there d page && not (covers_whole e.off (end_of e) page)
-
--- the page gets new bytes: each that a write touches, and of those that are cleared each that is so in part
-abbrev pub is_put : Edit → Draft → ℕ → Bool
-is_put e d page = not e.clears || is_in_part e d page
-
--- the pages that get new bytes, in order
-abbrev pub pages_put : Edit → Draft → List ℕ
-pages_put e d = filter (is_put e d) (pages_touched e.off (end_of e))
-
--- those of them that take a unit: one that this transaction has put before is changed on its unit
-abbrev pub pages_taking : Edit → Draft → List ℕ
-pages_taking e d = filter (λ page. not (finite.contains_key d.puts page)) (pages_put e d)
-
--- the places where old bytes are read: those of the pages in part that stand where they stood, in order
-abbrev pub places_read : Edit → Draft → List Place
-places_read e d = flat_map (λ page. option_to_list (finite.get d.kept page)) (filter (is_in_part e d) (pages_touched e.off (end_of e)))
+-- the page has bytes of the range from `off` to `end`
+abbrev pub has_bytes_of : ℕ → ℕ → ℕ → Bool
+has_bytes_of off end page = nat_lt off end && is_key_in (off / 4096) ((end + 4095) / 4096) page
 
 -- whether the edit touches the page
 abbrev pub is_touched : Edit → ℕ → Bool
-is_touched e page = nat_lt e.off (end_of e) && is_in (e.off / 4096) ((end_of e + 4095) / 4096) page
+is_touched e page = has_bytes_of e.off (end_of e) page
+
+-- ---- what becomes of a page
+
+-- Of a page that has bytes of a range, all or some, and of which not all bytes are cleared: one that was put by a taking is changed there; one
+-- that stands where it stood takes a unit; a hole takes one too, or stays a hole where the range is cleared.
+abbrev pub fate_there : Bool → Bool → Option ℕ → Option Place → Fate
+fate_there clears whole (Some taking) kept = Changed taking (not whole)
+fate_there clears whole None (Some place) = Takes (not whole)
+fate_there clears whole None None = if clears then Hole else Takes false
+
+-- Of a page of a draft, where the range from `off` to `end` gets new bytes, or is cleared: one without bytes of the range stays, and one of which
+-- all bytes are cleared is a hole.
+abbrev pub fate_in : ℕ → ℕ → Bool → Draft → ℕ → Fate
+fate_in off end clears d page = if not (has_bytes_of off end page) then Stays
+    else if clears && covers_whole off end page then Hole
+    else fate_there clears (covers_whole off end page) (finite.get d.puts page) (finite.get d.kept page)
+
+abbrev pub fate_of : Edit → Draft → ℕ → Fate
+fate_of e d page = fate_in e.off (end_of e) e.clears d page
+
+-- whether it is left as it is
+abbrev pub is_left : Fate → Bool
+is_left Stays = true
+is_left fate = false
+
+-- it is a hole
+abbrev pub is_hole : Fate → Bool
+is_hole Hole = true
+is_hole fate = false
+
+-- it gets new bytes
+abbrev pub gets_bytes : Fate → Bool
+gets_bytes (Changed taking old) = true
+gets_bytes (Takes old) = true
+gets_bytes fate = false
+
+-- it takes a unit
+abbrev pub takes_unit : Fate → Bool
+takes_unit (Takes old) = true
+takes_unit fate = false
+
+-- some of its old bytes stay beside new ones
+abbrev pub needs_old : Fate → Bool
+needs_old (Changed taking old) = old
+needs_old (Takes old) = old
+needs_old fate = false
+
+-- ---- the pages of an edit by what becomes of them
+
+-- the pages that get new bytes, in order
+abbrev pub pages_put : Edit → Draft → List ℕ
+pages_put e d = filter (λ page. gets_bytes (fate_of e d page)) (pages_touched e.off (end_of e))
+
+-- those of them that take a unit
+abbrev pub pages_taking : Edit → Draft → List ℕ
+pages_taking e d = filter (λ page. takes_unit (fate_of e d page)) (pages_put e d)
+
+-- where a page stands, if some of its old bytes stay
+abbrev pub place_read : Fate → Option Place → Option Place
+place_read fate kept = if needs_old fate then kept else None
+
+-- the places where old bytes are read, in order
+abbrev pub places_read : Edit → Draft → List Place
+places_read e d = flat_map (λ page. option_to_list (place_read (fate_of e d page) (finite.get d.kept page))) (pages_put e d)
+
+-- the units that are released where a page leaves its place: that of the object's own on which it stood
+abbrev pub units_released : Place → List ℕ
+units_released (own unit csum) = unit ∷ []
 
 -- pages put by takings from this number on, one each
 abbrev pub with_takings : ℕ → List ℕ → NumberMap ℕ → NumberMap ℕ
@@ -51,8 +105,8 @@ with_takings n (page ∷ pages) puts = with_takings (n + 1) pages (finite.insert
 abbrev pub drafted : Edit → ℕ → Draft → Draft
 drafted e n d = record {
   size = e.size;
-  kept = finite.retain_keys d.kept (λ page. not (is_touched e page));
-  puts = with_takings n (pages_taking e d) (finite.retain_keys d.puts (λ page. not (is_cleared e page)));
+  kept = finite.retain_keys d.kept (λ page. is_left (fate_of e d page));
+  puts = with_takings n (pages_taking e d) (finite.retain_keys d.puts (λ page. not (is_hole (fate_of e d page))));
 }
 
 -- ---- bytes
@@ -63,7 +117,7 @@ Held = ℕ → List ℕ
 
 -- the old bytes of a page: what the unit is to hold on which it was put, those of the place where it stands, or zeros of a hole
 abbrev pub old_page : List ReadUnit → Held → Draft → ℕ → List ℕ
-old_page read held d page = option_map_or held (finite.get d.puts page) (option_map_or (bytes_in read) (finite.get d.kept page) (zeros 4096))
+old_page read held d page = option_map_or held (finite.get d.puts page) (option_map_or (old_bytes_in read) (finite.get d.kept page) (zeros 4096))
 
 -- the taking by which a page was put
 abbrev pub taking_of : Draft → ℕ → ℕ

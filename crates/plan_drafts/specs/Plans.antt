@@ -16,7 +16,7 @@ use Rattle.blob_map.specs.Prelude.{with_pages}
 use Rattle.unit_allocator.specs.Prelude.{Space, free_units}
 use Rattle.plan_rows.specs.declared.plan.Plan.{Plan}
 use Rattle.plan_rows.specs.declared.plan.FreshUnit.{FreshUnit}
-pub use Rattle.plan_rows.specs.Plans.{HoldsFresh, IsFresh, StandsOnce, fresh_units, AreFreeOver}
+pub use Rattle.plan_rows.specs.Plans.{HoldsFresh, IsFreshUnit, StandsOnce, fresh_units, AreFreeOver}
 use Rattle.plan_drafts.specs.Asks.{Begins, AreReadAt}
 use Rattle.plan_rows.specs.Difference.{Changes, KeysAscend}
 use Rattle.plan_drafts.specs.Drafts.{CollDraft, or_new, with_ops, places_of, held_by, none_held, AreTaken}

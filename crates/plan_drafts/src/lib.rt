@@ -8,5 +8,7 @@
 #![tactic(auto)]
 
 mod draft;
+mod fate;
 
 pub use draft::Draft;
+pub use fate::Fate;

@@ -3,6 +3,7 @@ use Rattle.std.specs.Prelude.{◌≡◌, List, [], ◌∷◌, Some}
 use Rattle.std.specs.List.{AllByRecursion}
 use Rattle.std.specs.FinMap as finite
 use Rattle.std.specs.declared.cmp.Ordering.TheVariants.{Less}
+use Rattle.ordered_lists.specs.Lists.{Ascend}
 use Rattle.byte_maps.specs.ByteMap.{byte_order}
 use Rattle.meta_rows.specs.Prelude.{Rows, rows_after, key_of}
 use Rattle.meta_rows.specs.declared.row_op.RowOp.{RowOp}
@@ -18,8 +19,7 @@ Changes rows (Flip key mask) = ⊥
 
 -- each operation's key is above those before it
 abbrev pub KeysAscend : List RowOp → Type 0
-KeysAscend [] = Unit {0}
-KeysAscend (op ∷ ops) = AllByRecursion (λ later. byte_order (key_of op) (key_of later) ≡ Less) ops × KeysAscend ops
+KeysAscend ops = Ascend (λ op later. byte_order (key_of op) (key_of later) ≡ Less) ops
 
 -- The difference between rows and others: operations that turn the one into the other, in the order of their keys, none of which could be
 -- left out.

@@ -58,9 +58,9 @@ is_cleared e page = e.clears && covers_whole e.off (end_of e) page
 
 -- ---- units
 
--- the unit of the object's own on which a page stands (one on a slot of a shared blob is to have none)
-abbrev pub own_units : Place → List ℕ
-own_units (own unit csum) = unit ∷ []
+-- the unit that holds the bytes of a page at this place
+abbrev pub units_read : Place → List ℕ
+units_read (own unit csum) = unit ∷ []
 
 -- the old bytes that were read of a unit, or zeros where it wasn't
 abbrev pub bytes_read : List ReadUnit → ℕ → List ℕ
@@ -68,8 +68,8 @@ bytes_read [] unit = zeros 4096
 bytes_read (r ∷ rs) unit = if r.unit == unit then r.bytes else bytes_read rs unit
 
 -- the old bytes of a place
-abbrev pub bytes_in : List ReadUnit → Place → List ℕ
-bytes_in read (own unit csum) = bytes_read read unit
+abbrev pub old_bytes_in : List ReadUnit → Place → List ℕ
+old_bytes_in read (own unit csum) = bytes_read read unit
 
 -- ---- bytes
 
@@ -81,8 +81,8 @@ bytes_after (Truncate o to) old = resized old to
 bytes_after op old = old
 
 -- what an operation on bytes asks of its numbers
-abbrev pub IsWithin : Op → Type 0
-IsWithin (Write o off bytes) = off + length bytes ≤ object_limit
-IsWithin (Zero o off len) = off + len ≤ object_limit
-IsWithin (Truncate o to) = to ≤ object_limit
-IsWithin op = Unit {0}
+abbrev pub IsInLimits : Op → Type 0
+IsInLimits (Write o off bytes) = off + length bytes ≤ object_limit
+IsInLimits (Zero o off len) = off + len ≤ object_limit
+IsInLimits (Truncate o to) = to ≤ object_limit
+IsInLimits op = Unit {0}

@@ -44,8 +44,8 @@ abbrev pub HoldsFresh : (ℕ → List ℕ) → Plan → Type 0
 HoldsFresh at plan = AllByRecursion (λ f. at f.unit ≡ f.bytes) plan.fresh
 
 -- the unit is one of the fresh ones
-abbrev pub IsFresh : Plan → ℕ → Type 0
-IsFresh plan unit = Any (λ f. f.unit ≡ unit) plan.fresh
+abbrev pub IsFreshUnit : Plan → ℕ → Type 0
+IsFreshUnit plan unit = Any (λ f. f.unit ≡ unit) plan.fresh
 
 -- the unit stands at most once in the list
 abbrev pub StandsOnce : List ℕ → ℕ → Type 0

@@ -1,7 +1,7 @@
 //! What a transaction is turned into before it is accepted.
 
 use byte_maps::Items;
-use bytes::Bytes;
+use bytes::Bytes as SharedBytes;
 use meta_rows::RowOp;
 use unit_fields::UnitNo;
 
@@ -10,7 +10,7 @@ use unit_fields::UnitNo;
 pub struct FreshUnit {
     pub unit: UnitNo,
     /// 4096 bytes, a part of what the transaction's operation has, which it shares: they keep that in memory until its commit.
-    pub bytes: Bytes,
+    pub bytes: SharedBytes,
 }
 
 /// A unit whose old bytes are in a page that a transaction changes in part.
@@ -18,7 +18,7 @@ pub struct FreshUnit {
 pub struct ReadUnit {
     pub unit: UnitNo,
     /// Its 4096 bytes, shared with the memory that they were found in or the buffer that they were read into.
-    pub bytes: Bytes,
+    pub bytes: SharedBytes,
 }
 
 /// What accepting a transaction takes: the rows that it changes, the units that it writes, and those that it frees.

@@ -7,10 +7,11 @@ use Rattle.crc32c_csum.specs.Prelude.{crc32c}
 use Rattle.object_model.specs.declared.op.Refusal.{Refusal}
 use Rattle.object_model.specs.declared.op.Refusal.TheVariants.{NoCollection, NoObject, NoAttr}
 use Rattle.object_model.specs.declared.command.Command.TheVariants as ask
+use Rattle.object_model.specs.declared.command.Read.{Read}
+use Rattle.object_model.specs.declared.command.Read.TheVariants as reads
 use Rattle.object_model.specs.declared.command.Answer.{Answer}
 use Rattle.object_model.specs.declared.command.Answer.TheVariants as answer
-use Rattle.object_model.specs.Prelude.{Object, Collection, Objects, object_under, answer_from, found_object, reply_of, is_refused}
-use Rattle.object_model.specs.declared.command.Command.{Command}
+use Rattle.object_model.specs.Prelude.{Object, Collection, Objects, object_under, answer_from, found_object, read_reply, is_refused}
 use Rattle.meta_rows.specs.Prelude.{Rows, row}
 use Rattle.unit_fields.specs.Prelude.{IsName, IsCollName}
 use Rattle.unit_fields.specs.declared.width.Width.{Width}
@@ -53,7 +54,7 @@ module _ (rows : Rows) (objects : Objects) (shape : IsShape rows objects) (c o :
 
 -- so the sum of its bytes isn't refused
 pub sum_taken : (rows : Rows) (c o : List ℕ) → IsCollName c → IsName o → HasKey rows (coll_key c) → HasKey rows (onode_key c o)
-    → IsNotRefused rows (ask.Sum c o)
+    → IsNotRefused rows (ask.Read (reads.Sum c o))
 sum_taken rows c o coll name has there objects shape =
     answer_given (found_object objects c o) (λ b. answer.Sum (length b.bytes) (crc32c b.bytes))
     (object_there rows objects shape c o coll name has there) (λ b. refl)
@@ -74,28 +75,28 @@ module _ (rows : Rows) (c o : List ℕ) (coll : IsCollName c) (name : IsName o) 
       ∙ ap by_value (same objects shape object.0 object.1)
 
   -- the answer to a read of a value is what stands under its key, or that there is none
-  value_answered : (command : Command) (key : List ℕ) → ((objects : Objects) → IsShape rows objects → reply_of command objects ≡ by_value (finite.get rows key))
-      → (P : Answer → Type 0) → (a : Answer) → a ≡ by_value (finite.get rows key) → (IsRefusedBy rows command NoAttr → P (answer.Refused NoAttr))
-      → ((value : List ℕ) → IsNotRefused rows command → finite.get rows key ≡ Some value → P (answer.Bytes value)) → P a
-  value_answered command key replies P a is none some = elim (finite.get rows key) as (λ x. finite.get rows key ≡ x → a ≡ by_value x → P a) [
+  value_answered : (read : Read) (key : List ℕ) → ((objects : Objects) → IsShape rows objects → read_reply read objects ≡ by_value (finite.get rows key))
+      → (P : Answer → Type 0) → (a : Answer) → a ≡ by_value (finite.get rows key) → (IsRefusedBy rows (ask.Read read) NoAttr → P (answer.Refused NoAttr))
+      → ((value : List ℕ) → IsNotRefused rows (ask.Read read) → finite.get rows key ≡ Some value → P (answer.Bytes value)) → P a
+  value_answered read key replies P a is none some = elim (finite.get rows key) as (λ x. finite.get rows key ≡ x → a ≡ by_value x → P a) [
     | None ↦ λ p e. subst P (sym e) (none (λ objects shape. replies objects shape ∙ ap by_value p))
     | Some v ↦ λ p e. subst P (sym e) (some v (λ objects shape. ap (λ r. not (is_refused r)) (replies objects shape ∙ ap by_value p)) p)
   ] refl is
 
   pub attr_answered : (w : Width) (memory : ℕ → Option (List ℕ)) (held : ℕ → List ℕ → Type 0) (n : List ℕ) → IsName n → (a : Answer)
-      → a ≡ by_value (finite.get rows (attr_key c o n)) → IsAnswerOf w memory held rows (ask.GetAttr c o n) a
-  attr_answered w memory held n named a is = value_answered (ask.GetAttr c o n) (attr_key c o n)
+      → a ≡ by_value (finite.get rows (attr_key c o n)) → IsAnswerOf w memory held rows (reads.GetAttr c o n) a
+  attr_answered w memory held n named a is = value_answered (reads.GetAttr c o n) (attr_key c o n)
       (answered_by (λ b. finite.get b.attrs n) (attr_key c o n) (λ objects shape b under. (shape.present c o b under).attrs n named))
-      (IsAnswerOf w memory held rows (ask.GetAttr c o n)) a is (λ refused. refused) (λ value taken found. (taken, found))
+      (IsAnswerOf w memory held rows (reads.GetAttr c o n)) a is (λ refused. refused) (λ value taken found. (taken, found))
 
   pub pair_answered : (w : Width) (memory : ℕ → Option (List ℕ)) (held : ℕ → List ℕ → Type 0) (key : List ℕ) → IsName key → (a : Answer)
-      → a ≡ by_value (finite.get rows (omap_key c o key)) → IsAnswerOf w memory held rows (ask.OmapGet c o key) a
-  pair_answered w memory held key named a is = value_answered (ask.OmapGet c o key) (omap_key c o key)
+      → a ≡ by_value (finite.get rows (omap_key c o key)) → IsAnswerOf w memory held rows (reads.OmapGet c o key) a
+  pair_answered w memory held key named a is = value_answered (reads.OmapGet c o key) (omap_key c o key)
       (answered_by (λ b. finite.get b.omap key) (omap_key c o key) (λ objects shape b under. (shape.present c o b under).omap key named))
-      (IsAnswerOf w memory held rows (ask.OmapGet c o key)) a is (λ refused. refused) (λ value taken found. (taken, found))
+      (IsAnswerOf w memory held rows (reads.OmapGet c o key)) a is (λ refused. refused) (λ value taken found. (taken, found))
 
   pub header_answered : (w : Width) (memory : ℕ → Option (List ℕ)) (held : ℕ → List ℕ → Type 0) (value : List ℕ) → value ≡ row rows (header_key c o)
-      → IsAnswerOf w memory held rows (ask.OmapHeader c o) (answer.Bytes value)
+      → IsAnswerOf w memory held rows (reads.OmapHeader c o) (answer.Bytes value)
   header_answered w memory held value is = (
     λ objects shape. answer_given (found_object objects c o) (λ b. answer.Bytes b.header) (object_there rows objects shape c o coll name has there) (λ b. refl),
     is,

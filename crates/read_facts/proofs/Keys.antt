@@ -1,5 +1,5 @@
 -- The names of collections and of objects that rows have are the keys of objects that have the shape of the rows.
-use Rattle.std.proofs.Common.{◌≡◌, ℕ, List, Option, Some, None, true, false, is_some, refl, sym, ap, subst, ◌∙◌, option_and_then, arith}
+use Rattle.std.proofs.Common.{◌≡◌, ℕ, List, Option, Some, None, true, false, is_some, refl, sym, ap, subst, ◌∙◌, option_and_then}
 use Rattle.std.specs.FinMap as finite
 use Rattle.meta_rows.specs.Prelude.{Rows}
 use Rattle.meta_log.specs.declared.slot.Super.{Super}
@@ -7,8 +7,8 @@ use Rattle.meta_log.specs.Prelude.{width_of}
 use Rattle.object_model.specs.Prelude.{Collection, Objects, object_under}
 use Rattle.unit_fields.specs.Prelude.{IsCollName}
 use Rattle.unit_fields.specs.declared.width.Width.{Width}
-use Rattle.row_format.specs.Prelude.{coll_key, Row, collection, onode, shard, attribute, omap_header, omap_pair, bitmap, row_key, FitsRow}
-use Rattle.row_format.proofs.Prelude.{same_head, same_coll, coll_no_object, bitmap_no_coll}
+use Rattle.row_format.specs.Prelude.{coll_key, Row, row_key, FitsRow}
+use Rattle.row_format.proofs.Prelude.{under_coll}
 use Rattle.store_image.specs.Prelude.{HasKey, NoBadRow, IsShape}
 use Rattle.row_facts.proofs.ByRow.{object_present}
 use Rattle.read_facts.specs.Prelude.{IsCollection, IsObject, AreAll}
@@ -16,13 +16,7 @@ use Rattle.read_facts.proofs.Walks.{keys_are_all}
 
 -- a row under the key of a collection names a collection
 coll_named : (w : Width) (c : List ℕ) (row : Row) → FitsRow w row → coll_key c ≡ row_key row → IsCollName c
-coll_named w c (collection d) fits is = subst IsCollName (sym (same_coll c d is)) fits
-coll_named w c (onode d o size) fits is = absurd (coll_no_object c d o _ is)
-coll_named w c (shard d o page extents) fits is = absurd (coll_no_object c d o _ is)
-coll_named w c (attribute d o name v) fits is = absurd (omega (arith, same_head _ _ _ _ is))
-coll_named w c (omap_header d o v) fits is = absurd (omega (arith, same_head _ _ _ _ is))
-coll_named w c (omap_pair d o k v) fits is = absurd (omega (arith, same_head _ _ _ _ is))
-coll_named w c (bitmap r bits) fits is = absurd (bitmap_no_coll r c (sym is))
+coll_named w c row fits is = subst (FitsRow w) (under_coll w c row fits is) fits
 
 -- what an option that is there holds
 pub some_of : {X : Type 0} (x : Option X) → is_some x ≡ true → (v : X) × (x ≡ Some v)

@@ -7,17 +7,18 @@ use Rattle.std.proofs.lemmas.Nat.{from_le_bytes-to_le_bytes_8}
 use Rattle.std.specs.FinMap as finite
 use Rattle.crc32c_csum.specs.Prelude.{crc32c}
 use Rattle.object_model.specs.declared.op.Refusal.TheVariants.{NoCollection, NoObject, NoAttr, BadRange}
-use Rattle.object_model.specs.declared.command.Command.{Command}
 use Rattle.object_model.specs.declared.command.Command.TheVariants as ask
+use Rattle.object_model.specs.declared.command.Read.{Read}
+use Rattle.object_model.specs.declared.command.Read.TheVariants as reads
 use Rattle.object_model.specs.declared.command.Answer.{Answer}
 use Rattle.object_model.specs.declared.command.Answer.TheVariants as answer
-use Rattle.object_model.specs.Prelude.{Object, Collection, Objects, object_under, object_limit, answer_from, answer_of_object, value_of, reply_of, is_refused, is_of_device}
+use Rattle.object_model.specs.Prelude.{Object, Collection, Objects, object_under, object_limit, answer_from, answer_of_object, value_of, read_reply, is_refused, is_of_device}
 use Rattle.meta_rows.specs.Prelude.{Rows}
 use Rattle.byte_maps.specs.ByteMap.{ByteMap}
 use Rattle.unit_fields.specs.Prelude.{IsName, IsCollName}
 use Rattle.unit_fields.specs.declared.width.Width.{Width}
 use Rattle.store_image.specs.Prelude.{HasOnode, IsShape}
-use Rattle.read_facts.specs.Prelude.{IsObject, ReadsBytes, HasReadNames, IsAnswerOf, IsAlike}
+use Rattle.read_facts.specs.Prelude.{IsObject, ReadsRange, HasReadNames, IsAnswerOf, IsAlike}
 use Rattle.read_facts.proofs.Walks.{one_order}
 use Rattle.read_facts.proofs.Keys.{object_keys}
 use Rattle.read_facts.proofs.Cut.{cut_length}
@@ -78,8 +79,8 @@ module _ (objects : Objects) (c o : List ℕ) where
   in_range true bytes given = absurd cc
   in_range false bytes given = refl
 
-  pub read_given : (off len : ℕ) → IsGivenAnswer (reply_of (ask.Read c o off len) objects)
-      → IsGiven objects c o (reply_of (ask.Read c o off len) objects) (λ b. answer.Bytes (take len (drop off b.bytes)))
+  pub read_given : (off len : ℕ) → IsGivenAnswer (read_reply (reads.Bytes c o off len) objects)
+      → IsGiven objects c o (read_reply (reads.Bytes c o off len) objects) (λ b. answer.Bytes (take len (drop off b.bytes)))
   read_given off len is =
       let beyond : Bool = nat_lt object_limit (off + len) in
       let given = object_given (λ b. cond beyond (answer.Refused BadRange) (answer.Bytes (take len (drop off b.bytes)))) is in
@@ -89,24 +90,24 @@ module _ (objects : Objects) (c o : List ℕ) where
         reply = given.reply ∙ in_range beyond (take len (drop off given.object.bytes)) (subst IsGivenAnswer given.reply is);
       }
 
-  pub sum_given : IsGivenAnswer (reply_of (ask.Sum c o) objects)
-      → IsGiven objects c o (reply_of (ask.Sum c o) objects) (λ b. answer.Sum (length b.bytes) (crc32c b.bytes))
+  pub sum_given : IsGivenAnswer (read_reply (reads.Sum c o) objects)
+      → IsGiven objects c o (read_reply (reads.Sum c o) objects) (λ b. answer.Sum (length b.bytes) (crc32c b.bytes))
   sum_given is = object_given (λ b. answer.Sum (length b.bytes) (crc32c b.bytes)) is
 
-  pub attr_given : (name : List ℕ) → IsGivenAnswer (reply_of (ask.GetAttr c o name) objects)
-      → IsGiven objects c o (reply_of (ask.GetAttr c o name) objects) (λ b. value_of b.attrs name)
+  pub attr_given : (name : List ℕ) → IsGivenAnswer (read_reply (reads.GetAttr c o name) objects)
+      → IsGiven objects c o (read_reply (reads.GetAttr c o name) objects) (λ b. value_of b.attrs name)
   attr_given name is = object_given (λ b. value_of b.attrs name) is
 
-  pub pair_given : (key : List ℕ) → IsGivenAnswer (reply_of (ask.OmapGet c o key) objects)
-      → IsGiven objects c o (reply_of (ask.OmapGet c o key) objects) (λ b. value_of b.omap key)
+  pub pair_given : (key : List ℕ) → IsGivenAnswer (read_reply (reads.OmapGet c o key) objects)
+      → IsGiven objects c o (read_reply (reads.OmapGet c o key) objects) (λ b. value_of b.omap key)
   pair_given key is = object_given (λ b. value_of b.omap key) is
 
-  pub header_given : IsGivenAnswer (reply_of (ask.OmapHeader c o) objects)
-      → IsGiven objects c o (reply_of (ask.OmapHeader c o) objects) (λ b. answer.Bytes b.header)
+  pub header_given : IsGivenAnswer (read_reply (reads.OmapHeader c o) objects)
+      → IsGiven objects c o (read_reply (reads.OmapHeader c o) objects) (λ b. answer.Bytes b.header)
   header_given is = object_given (λ b. answer.Bytes b.header) is
 
-  pub stat_given : IsGivenAnswer (reply_of (ask.Stat c o) objects)
-      → IsGiven objects c o (reply_of (ask.Stat c o) objects) (λ b. answer.Size (length b.bytes))
+  pub stat_given : IsGivenAnswer (read_reply (reads.Stat c o) objects)
+      → IsGiven objects c o (read_reply (reads.Stat c o) objects) (λ b. answer.Size (length b.bytes))
   stat_given is = object_given (λ b. answer.Size (length b.bytes)) is
 
 -- the answer is the names of a collection's objects
@@ -124,8 +125,31 @@ list_by : (objects : Objects) (c : List ℕ) (x : Option Collection) → finite.
 list_by objects c None e given = absurd cc
 list_by objects c (Some found) e given = record { found = found; there = e; reply = refl }
 
-list_given : (objects : Objects) (c : List ℕ) → IsGivenAnswer (reply_of (ask.List c) objects) → IsListed objects c (reply_of (ask.List c) objects)
+list_given : (objects : Objects) (c : List ℕ) → IsGivenAnswer (read_reply (reads.List c) objects) → IsListed objects c (read_reply (reads.List c) objects)
 list_given objects c = list_by objects c (finite.get objects c) refl
+
+-- ---- what a read gives
+
+-- no answer to a transaction: it accepts nothing, and wants neither units nor room
+abbrev pub IsOfRead : Answer → Type 0
+IsOfRead answer.Accepted = ⊥
+IsOfRead (answer.NoSpace need free) = ⊥
+IsOfRead (answer.MetaFull need room) = ⊥
+IsOfRead a = Unit {0}
+
+pub given_by_read : (w : Width) (memory : ℕ → Option (List ℕ)) (held : ℕ → List ℕ → Type 0) (rows : Rows) (read : Read) (a : Answer)
+    → IsAnswerOf w memory held rows read a → IsOfRead a
+given_by_read w memory held rows (reads.Bytes c o off len) (answer.Bytes bytes) is = tt
+given_by_read w memory held rows (reads.Bytes c o off len) (answer.Csum unit kept found) is = tt
+given_by_read w memory held rows (reads.Sum c o) (answer.Sum size crc) is = tt
+given_by_read w memory held rows (reads.Sum c o) (answer.Csum unit kept found) is = tt
+given_by_read w memory held rows (reads.Stat c o) (answer.Size size) is = tt
+given_by_read w memory held rows (reads.GetAttr c o name) (answer.Bytes value) is = tt
+given_by_read w memory held rows (reads.OmapGet c o key) (answer.Bytes value) is = tt
+given_by_read w memory held rows (reads.OmapHeader c o) (answer.Bytes value) is = tt
+given_by_read w memory held rows (reads.List c) (answer.Names names) is = tt
+given_by_read w memory held rows read (answer.Refused refusal) is = tt
+given_by_read w memory held rows read a is = absurd is.1
 
 -- ---- all but the bytes
 
@@ -136,35 +160,35 @@ module _ (w : Width) (rows : Rows) (objects : Objects) (shape : IsShape rows obj
   size_is c o object size under has = one_size rows c o size (length object.bytes) has (shape.present c o object under).size
 
   -- an answer is alike or by a bad unit
-  abbrev IsPlain : Command → Answer → Type 0
-  IsPlain command a = IsAlike command a (reply_of command objects)
-      ⊎ (IsTrue (is_of_device command a) × IsTrue (not (is_refused (reply_of command objects))))
+  abbrev IsPlain : Read → Answer → Type 0
+  IsPlain read a = IsAlike (ask.Read read) a (read_reply read objects)
+      ⊎ (IsTrue (is_of_device (ask.Read read) a) × IsTrue (not (is_refused (read_reply read objects))))
 
   module _ (memory : ℕ → Option (List ℕ)) (held : ℕ → List ℕ → Type 0) where
     -- an answer to a read of bytes
-    plain_read : (c o : List ℕ) (off len : ℕ) (a : Answer) → IsAnswerOf w memory held rows (ask.Read c o off len) a → IsPlain (ask.Read c o off len) a
+    plain_read : (c o : List ℕ) (off len : ℕ) (a : Answer) → IsAnswerOf w memory held rows (reads.Bytes c o off len) a → IsPlain (reads.Bytes c o off len) a
     plain_read c o off len (answer.Refused r) is =
-        inl (subst (IsAlike (ask.Read c o off len) (answer.Refused r)) (sym (is objects shape)) refl)
+        inl (subst (IsAlike (ask.Read (reads.Bytes c o off len)) (answer.Refused r)) (sym (is objects shape)) refl)
     plain_read c o off len (answer.Bytes bytes) is =
         let given = read_given objects c o off len (is.0 objects shape) in
-        let read : ReadsBytes w memory held rows c o is.1.0 off len bytes = is.1.1 in
+        let read : ReadsRange w memory held rows c o is.1.0 off len bytes = is.1.1 in
         let size : length given.object.bytes ≡ is.1.0 = sym (size_is c o given.object is.1.0 given.under read.has_size) in
-        inl (subst (IsAlike (ask.Read c o off len) (answer.Bytes bytes)) (sym given.reply)
+        inl (subst (IsAlike (ask.Read (reads.Bytes c o off len)) (answer.Bytes bytes)) (sym given.reply)
         (ap length read.cut ∙ cut_length is.1.0 off len read.pages given.object.bytes read.good.size size))
     plain_read c o off len (answer.Csum unit kept found) is = inr (refl, is.0 objects shape)
     plain_read c o off len a is = absurd is.1
 
     -- an answer to a sum
-    plain_sum : (c o : List ℕ) (a : Answer) → IsAnswerOf w memory held rows (ask.Sum c o) a → IsPlain (ask.Sum c o) a
-    plain_sum c o (answer.Refused r) is = inl (subst (IsAlike (ask.Sum c o) (answer.Refused r)) (sym (is objects shape)) refl)
+    plain_sum : (c o : List ℕ) (a : Answer) → IsAnswerOf w memory held rows (reads.Sum c o) a → IsPlain (reads.Sum c o) a
+    plain_sum c o (answer.Refused r) is = inl (subst (IsAlike (ask.Read (reads.Sum c o)) (answer.Refused r)) (sym (is objects shape)) refl)
     plain_sum c o (answer.Sum size crc) is =
         let given = sum_given objects c o (is.0 objects shape) in
-        inl (subst (IsAlike (ask.Sum c o) (answer.Sum size crc)) (sym given.reply) (size_is c o given.object size given.under is.1.1.0.has_size))
+        inl (subst (IsAlike (ask.Read (reads.Sum c o)) (answer.Sum size crc)) (sym given.reply) (size_is c o given.object size given.under is.1.1.0.has_size))
     plain_sum c o (answer.Csum unit kept found) is = inr (refl, is.0 objects shape)
     plain_sum c o a is = absurd is.1
 
     -- an answer with a size
-    pub plain_stat : (c o : List ℕ) (a : Answer) → IsAnswerOf w memory held rows (ask.Stat c o) a → a ≡ reply_of (ask.Stat c o) objects
+    pub plain_stat : (c o : List ℕ) (a : Answer) → IsAnswerOf w memory held rows (reads.Stat c o) a → a ≡ read_reply (reads.Stat c o) objects
     plain_stat c o (answer.Refused r) is = sym (is objects shape)
     plain_stat c o (answer.Size size) is =
         let given = stat_given objects c o (is.0 objects shape) in
@@ -176,23 +200,23 @@ module _ (w : Width) (rows : Rows) (objects : Objects) (shape : IsShape rows obj
     found_value m name value is = sym (ap (λ x. option_map_or (λ v. answer.Bytes v) x (answer.Refused NoAttr)) is)
 
     -- answers with values
-    pub plain_attr : (c o name : List ℕ) (a : Answer) → IsName name → IsAnswerOf w memory held rows (ask.GetAttr c o name) a
-        → a ≡ reply_of (ask.GetAttr c o name) objects
+    pub plain_attr : (c o name : List ℕ) (a : Answer) → IsName name → IsAnswerOf w memory held rows (reads.GetAttr c o name) a
+        → a ≡ read_reply (reads.GetAttr c o name) objects
     plain_attr c o name (answer.Refused r) named is = sym (is objects shape)
     plain_attr c o name (answer.Bytes value) named is =
         let given = attr_given objects c o name (is.0 objects shape) in
         found_value given.object.attrs name value ((shape.present c o given.object given.under).attrs name named ∙ is.1) ∙ sym given.reply
     plain_attr c o name a named is = absurd is.1
 
-    pub plain_pair : (c o key : List ℕ) (a : Answer) → IsName key → IsAnswerOf w memory held rows (ask.OmapGet c o key) a
-        → a ≡ reply_of (ask.OmapGet c o key) objects
+    pub plain_pair : (c o key : List ℕ) (a : Answer) → IsName key → IsAnswerOf w memory held rows (reads.OmapGet c o key) a
+        → a ≡ read_reply (reads.OmapGet c o key) objects
     plain_pair c o key (answer.Refused r) named is = sym (is objects shape)
     plain_pair c o key (answer.Bytes value) named is =
         let given = pair_given objects c o key (is.0 objects shape) in
         found_value given.object.omap key value ((shape.present c o given.object given.under).omap key named ∙ is.1) ∙ sym given.reply
     plain_pair c o key a named is = absurd is.1
 
-    pub plain_header : (c o : List ℕ) (a : Answer) → IsAnswerOf w memory held rows (ask.OmapHeader c o) a → a ≡ reply_of (ask.OmapHeader c o) objects
+    pub plain_header : (c o : List ℕ) (a : Answer) → IsAnswerOf w memory held rows (reads.OmapHeader c o) a → a ≡ read_reply (reads.OmapHeader c o) objects
     plain_header c o (answer.Refused r) is = sym (is objects shape)
     plain_header c o (answer.Bytes value) is =
         let given = header_given objects c o (is.0 objects shape) in
@@ -200,7 +224,7 @@ module _ (w : Width) (rows : Rows) (objects : Objects) (shape : IsShape rows obj
     plain_header c o a is = absurd is.1
 
     -- an answer with names
-    pub plain_list : (c : List ℕ) (a : Answer) → IsCollName c → IsAnswerOf w memory held rows (ask.List c) a → a ≡ reply_of (ask.List c) objects
+    pub plain_list : (c : List ℕ) (a : Answer) → IsCollName c → IsAnswerOf w memory held rows (reads.List c) a → a ≡ read_reply (reads.List c) objects
     plain_list c (answer.Refused r) coll is = sym (is objects shape)
     plain_list c (answer.Names names) coll is =
         let given = list_given objects c (is.0 objects shape) in
@@ -209,12 +233,11 @@ module _ (w : Width) (rows : Rows) (objects : Objects) (shape : IsShape rows obj
     plain_list c a coll is = absurd is.1
 
     -- whatever is in memory and the units hold
-    pub plain_answer : (command : Command) (a : Answer) → HasReadNames command → IsAnswerOf w memory held rows command a → IsPlain command a
-    plain_answer (ask.Read c o off len) a names is = plain_read c o off len a is
-    plain_answer (ask.Sum c o) a names is = plain_sum c o a is
-    plain_answer (ask.Stat c o) a names is = inl (plain_stat c o a is)
-    plain_answer (ask.GetAttr c o name) a names is = inl (plain_attr c o name a names.2 is)
-    plain_answer (ask.OmapGet c o key) a names is = inl (plain_pair c o key a names.2 is)
-    plain_answer (ask.OmapHeader c o) a names is = inl (plain_header c o a is)
-    plain_answer (ask.List c) a names is = inl (plain_list c a names is)
-    plain_answer command a names is = absurd names
+    pub plain_answer : (read : Read) (a : Answer) → HasReadNames read → IsAnswerOf w memory held rows read a → IsPlain read a
+    plain_answer (reads.Bytes c o off len) a names is = plain_read c o off len a is
+    plain_answer (reads.Sum c o) a names is = plain_sum c o a is
+    plain_answer (reads.Stat c o) a names is = inl (plain_stat c o a is)
+    plain_answer (reads.GetAttr c o name) a names is = inl (plain_attr c o name a names.2 is)
+    plain_answer (reads.OmapGet c o key) a names is = inl (plain_pair c o key a names.2 is)
+    plain_answer (reads.OmapHeader c o) a names is = inl (plain_header c o a is)
+    plain_answer (reads.List c) a names is = inl (plain_list c a names is)

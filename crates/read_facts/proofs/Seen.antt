@@ -5,15 +5,15 @@ use Rattle.byte_maps.specs.Units.{unit_at}
 use Rattle.unit_fields.specs.declared.width.Width.{Width}
 use Rattle.crc32c_csum.specs.Prelude.{crc32c}
 use Rattle.block_device.specs.Prelude.{Disk, History, last_at, HasNoBadDone}
-use Rattle.object_model.specs.declared.command.Command.{Command}
-use Rattle.object_model.specs.declared.command.Command.TheVariants as ask
+use Rattle.object_model.specs.declared.command.Read.{Read}
+use Rattle.object_model.specs.declared.command.Read.TheVariants as reads
 use Rattle.object_model.specs.declared.command.Answer.{Answer}
 use Rattle.object_model.specs.declared.command.Answer.TheVariants as answer
-use Rattle.object_model.specs.Prelude.{Objects, reply_of}
+use Rattle.object_model.specs.Prelude.{Objects, read_reply}
 use Rattle.meta_rows.specs.Prelude.{Rows}
 use Rattle.row_format.specs.Prelude.{own}
 use Rattle.store_image.specs.Prelude.{HasOnode, PageUnit, IsPageAt, IsPageOn, HasPage, page_bytes, AreObjectBytes, ObjectsStand}
-use Rattle.read_facts.specs.Prelude.{IsHeldAt, IsFound, IsGoodPage, hole, mapped, IsBadPage, IsBadUnit, ReadsBytes, FailsAt, HasReadNames, IsAnswerOf}
+use Rattle.read_facts.specs.Prelude.{IsHeldAt, IsFound, IsGoodPage, hole, mapped, IsBadPage, IsBadUnit, ReadsRange, FailsAt, HasReadNames, IsAnswerOf}
 use Rattle.read_facts.proofs.Cut.{cut_is}
 use Rattle.read_facts.proofs.Plain.{onode_object, read_given, sum_given, size_is, plain_stat, plain_attr, plain_pair, plain_header, plain_list}
 
@@ -64,7 +64,7 @@ module _ (w : Width) (memory : ℕ → Option (List ℕ)) (d : Disk) (h : Histor
         bad.differs (bad.is_found ∙ ap crc32c same ∙ seen.kept)
 
     -- so a read gives the object's bytes
-    pub bytes_are : (off len : ℕ) (read : List ℕ) → ReadsBytes w memory (IsHeldAt d) rows c o (length bytes) off len read
+    pub bytes_are : (off len : ℕ) (read : List ℕ) → ReadsRange w memory (IsHeldAt d) rows c o (length bytes) off len read
         → read ≡ take len (drop off bytes)
     bytes_are off len read r =
         r.cut ∙ cut_is bytes r.pages off len r.good.size (λ i below. good_is (off / 4096 + i) (unit_at i r.pages) (r.good.each i below))
@@ -90,17 +90,17 @@ module _ (w : Width) (memory : ℕ → Option (List ℕ)) (d : Disk) (h : Histor
         })
 
     -- a read of bytes is answered as the objects do
-    seen_read : (c o : List ℕ) (off len : ℕ) (a : Answer) → IsAnswerOf w memory (IsHeldAt d) rows (ask.Read c o off len) a
-        → a ≡ reply_of (ask.Read c o off len) objects
+    seen_read : (c o : List ℕ) (off len : ℕ) (a : Answer) → IsAnswerOf w memory (IsHeldAt d) rows (reads.Bytes c o off len) a
+        → a ≡ read_reply (reads.Bytes c o off len) objects
     seen_read c o off len (answer.Refused r) is = sym (is objects stand.shape)
     seen_read c o off len (answer.Bytes bytes) is =
         let given = read_given objects c o off len (is.0 objects stand.shape) in
-        let read : ReadsBytes w memory (IsHeldAt d) rows c o is.1.0 off len bytes = is.1.1 in
+        let read : ReadsRange w memory (IsHeldAt d) rows c o is.1.0 off len bytes = is.1.1 in
         let size : is.1.0 ≡ length given.object.bytes =
         size_is w rows objects stand.shape c o given.object is.1.0 given.under read.has_size in
         let same : bytes ≡ take len (drop off given.object.bytes) =
         bytes_are c o given.object.bytes (stand.bytes c o given.object given.under) off len bytes
-        (subst (λ (n : ℕ). ReadsBytes w memory (IsHeldAt d) rows c o n off len bytes) size read) in
+        (subst (λ (n : ℕ). ReadsRange w memory (IsHeldAt d) rows c o n off len bytes) size read) in
         ap answer.Bytes same ∙ sym given.reply
     seen_read c o off len (answer.Csum unit kept found) is =
         let given = read_given objects c o off len (is.0 objects stand.shape) in
@@ -108,16 +108,16 @@ module _ (w : Width) (memory : ℕ → Option (List ℕ)) (d : Disk) (h : Histor
     seen_read c o off len a is = absurd is.1
 
     -- so is a sum
-    seen_sum : (c o : List ℕ) (a : Answer) → IsAnswerOf w memory (IsHeldAt d) rows (ask.Sum c o) a → a ≡ reply_of (ask.Sum c o) objects
+    seen_sum : (c o : List ℕ) (a : Answer) → IsAnswerOf w memory (IsHeldAt d) rows (reads.Sum c o) a → a ≡ read_reply (reads.Sum c o) objects
     seen_sum c o (answer.Refused r) is = sym (is objects stand.shape)
     seen_sum c o (answer.Sum size crc) is =
         let given = sum_given objects c o (is.0 objects stand.shape) in
         let bytes : List ℕ = given.object.bytes in
-        let read : ReadsBytes w memory (IsHeldAt d) rows c o size 0 size is.1.0 = is.1.1.0 in
+        let read : ReadsRange w memory (IsHeldAt d) rows c o size 0 size is.1.0 = is.1.1.0 in
         let same_size : size ≡ length bytes = size_is w rows objects stand.shape c o given.object size given.under read.has_size in
         let same : is.1.0 ≡ take size (drop 0 bytes) =
         bytes_are c o bytes (stand.bytes c o given.object given.under) 0 size is.1.0
-        (subst (λ (n : ℕ). ReadsBytes w memory (IsHeldAt d) rows c o n 0 size is.1.0) same_size read) in
+        (subst (λ (n : ℕ). ReadsRange w memory (IsHeldAt d) rows c o n 0 size is.1.0) same_size read) in
         let crc_is : crc ≡ crc32c bytes =
         is.1.1.1 ∙ ap crc32c (same ∙ ap (λ (n : ℕ). take n bytes) same_size ∙ take_all (length bytes) bytes (omega arith)) in
         ap (λ (n : ℕ). answer.Sum n crc) same_size ∙ ap (answer.Sum (length bytes)) crc_is ∙ sym given.reply
@@ -127,13 +127,11 @@ module _ (w : Width) (memory : ℕ → Option (List ℕ)) (d : Disk) (h : Histor
     seen_sum c o a is = absurd is.1
 
     -- a read is answered as the objects do
-    pub seen_answer : (command : Command) (a : Answer) → HasReadNames command → IsAnswerOf w memory (IsHeldAt d) rows command a
-        → a ≡ reply_of command objects
-    seen_answer (ask.Read c o off len) a names is = seen_read c o off len a is
-    seen_answer (ask.Sum c o) a names is = seen_sum c o a is
-    seen_answer (ask.Stat c o) a names is = plain_stat w rows objects stand.shape memory (IsHeldAt d) c o a is
-    seen_answer (ask.GetAttr c o name) a names is = plain_attr w rows objects stand.shape memory (IsHeldAt d) c o name a names.2 is
-    seen_answer (ask.OmapGet c o key) a names is = plain_pair w rows objects stand.shape memory (IsHeldAt d) c o key a names.2 is
-    seen_answer (ask.OmapHeader c o) a names is = plain_header w rows objects stand.shape memory (IsHeldAt d) c o a is
-    seen_answer (ask.List c) a names is = plain_list w rows objects stand.shape memory (IsHeldAt d) c a names is
-    seen_answer command a names is = absurd names
+    pub seen_answer : (read : Read) (a : Answer) → HasReadNames read → IsAnswerOf w memory (IsHeldAt d) rows read a → a ≡ read_reply read objects
+    seen_answer (reads.Bytes c o off len) a names is = seen_read c o off len a is
+    seen_answer (reads.Sum c o) a names is = seen_sum c o a is
+    seen_answer (reads.Stat c o) a names is = plain_stat w rows objects stand.shape memory (IsHeldAt d) c o a is
+    seen_answer (reads.GetAttr c o name) a names is = plain_attr w rows objects stand.shape memory (IsHeldAt d) c o name a names.2 is
+    seen_answer (reads.OmapGet c o key) a names is = plain_pair w rows objects stand.shape memory (IsHeldAt d) c o key a names.2 is
+    seen_answer (reads.OmapHeader c o) a names is = plain_header w rows objects stand.shape memory (IsHeldAt d) c o a is
+    seen_answer (reads.List c) a names is = plain_list w rows objects stand.shape memory (IsHeldAt d) c a names is

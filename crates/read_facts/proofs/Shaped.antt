@@ -15,8 +15,8 @@ use Rattle.meta_rows.specs.Prelude.{Rows, row}
 use Rattle.meta_log.specs.declared.slot.Super.{Super}
 use Rattle.meta_log.specs.Prelude.{width_of}
 use Rattle.unit_fields.specs.Prelude.{IsName, IsCollName}
-use Rattle.row_format.specs.Prelude.{object_key, coll_key, onode_key, attr_key, header_key, omap_key, Row, collection, onode, shard, attribute, omap_header, omap_pair, bitmap, row_key, FitsRow}
-use Rattle.row_format.proofs.Prelude.{same_head, same_coll, coll_no_object, same_onode, onode_no_shard, bitmap_no_coll, bitmap_no_object}
+use Rattle.row_format.specs.Prelude.{object_key, coll_key, onode_key, attr_key, header_key, omap_key, Row, collection, onode, row_key, FitsRow}
+use Rattle.row_format.proofs.Prelude.{under_coll, under_onode, RowCase, of_coll, of_onode, of_shard, of_other, row_case}
 use Rattle.store_image.specs.Prelude.{HasKey, HasRow, HasOnode, IsInPlace, NoBadRow, IsObjectShape, IsShape}
 use Rattle.store_image.proofs.Prelude.{equal_or_not}
 use Rattle.row_facts.proofs.Maps.{get_same, get_other, some_after}
@@ -54,15 +54,16 @@ module _ (rows : Rows) where
   put_in c d (inl same) o size m = finite.insert m o (zeros_object rows c o size)
   put_in c d (inr apart) o size m = m
 
+  -- what a row says of the collection's objects
+  abbrev put_of : (c : List ℕ) {r : Row} → RowCase r → Collection → Collection
+  put_of c (of_onode d o size is) m = put_in c d (equal_or_not d c) o size m
+  put_of c (of_coll d is) m = m
+  put_of c (of_shard is) m = m
+  put_of c (of_other _ _ _) m = m
+
   abbrev objects_in : List ℕ → List Row → Collection
   objects_in c [] = finite.empty
-  objects_in c (collection d ∷ rs) = objects_in c rs
-  objects_in c (onode d o size ∷ rs) = put_in c d (equal_or_not d c) o size (objects_in c rs)
-  objects_in c (shard d o page extents ∷ rs) = objects_in c rs
-  objects_in c (attribute d u name v ∷ rs) = objects_in c rs
-  objects_in c (omap_header d u v ∷ rs) = objects_in c rs
-  objects_in c (omap_pair d u k v ∷ rs) = objects_in c rs
-  objects_in c (bitmap r bits ∷ rs) = objects_in c rs
+  objects_in c (r ∷ rs) = put_of c (row_case r) (objects_in c rs)
 
   -- an object is as its onode says
   abbrev IsOfOnode : List ℕ → List ℕ → Object → List Row → Type 0
@@ -86,13 +87,14 @@ module _ (rows : Rows) where
 
     found_row : (rs : List Row) (o : List ℕ) (object : Object) → finite.get (objects_in c rs) o ≡ Some object → IsOfOnode c o object rs
     found_row [] o object is = absurd (let e = sym (finite.get-empty byte_order o) ∙ is in cc)
-    found_row (collection d ∷ rs) o object is = later (collection d) rs o object (found_row rs o object is)
-    found_row (onode d u size ∷ rs) o object is = put_row d u size rs (equal_or_not d c) o object (found_row rs o object) is
-    found_row (shard d u page extents ∷ rs) o object is = later (shard d u page extents) rs o object (found_row rs o object is)
-    found_row (attribute d u name v ∷ rs) o object is = later (attribute d u name v) rs o object (found_row rs o object is)
-    found_row (omap_header d u v ∷ rs) o object is = later (omap_header d u v) rs o object (found_row rs o object is)
-    found_row (omap_pair d u k v ∷ rs) o object is = later (omap_pair d u k v) rs o object (found_row rs o object is)
-    found_row (bitmap r bits ∷ rs) o object is = later (bitmap r bits) rs o object (found_row rs o object is)
+    found_row (r ∷ rs) o object is = by (found_row rs o object) (row_case r) is
+      where
+        by : (finite.get (objects_in c rs) o ≡ Some object → IsOfOnode c o object rs) → (k : RowCase r) → finite.get (put_of c k (objects_in c rs)) o ≡ Some object → IsOfOnode c o object (r ∷ rs)
+        by before (of_onode d u size e) got =
+            subst (λ (x : Row). IsOfOnode c o object (x ∷ rs)) (sym e) (put_row d u size rs (equal_or_not d c) o object before got)
+        by before (of_coll d e) got = later r rs o object (before got)
+        by before (of_shard e) got = later r rs o object (before got)
+        by before (of_other _ _ _) got = later r rs o object (before got)
 
     row_put : (d u : List ℕ) (n : ℕ) (rs : List Row) (t : (d ≡ c) ⊎ (d ≢ c)) (o : List ℕ) (size : ℕ)
         → (IsIn (onode c o size) rs → is_some (finite.get (objects_in c rs) o) ≡ true)
@@ -107,33 +109,31 @@ module _ (rows : Rows) where
 
     row_found : (rs : List Row) (o : List ℕ) (size : ℕ) → IsIn (onode c o size) rs → is_some (finite.get (objects_in c rs) o) ≡ true
     row_found [] o size is = absurd is
-    row_found (collection d ∷ rs) o size (inl e) = absurd cc
-    row_found (collection d ∷ rs) o size (inr old) = row_found rs o size old
-    row_found (onode d u n ∷ rs) o size is = row_put d u n rs (equal_or_not d c) o size (row_found rs o size) is
-    row_found (shard d u page extents ∷ rs) o size (inl e) = absurd cc
-    row_found (shard d u page extents ∷ rs) o size (inr old) = row_found rs o size old
-    row_found (attribute d u name v ∷ rs) o size (inl e) = absurd cc
-    row_found (omap_header d u v ∷ rs) o size (inl e) = absurd cc
-    row_found (omap_pair d u k v ∷ rs) o size (inl e) = absurd cc
-    row_found (bitmap r bits ∷ rs) o size (inl e) = absurd cc
-    row_found (attribute d u name v ∷ rs) o size (inr old) = row_found rs o size old
-    row_found (omap_header d u v ∷ rs) o size (inr old) = row_found rs o size old
-    row_found (omap_pair d u k v ∷ rs) o size (inr old) = row_found rs o size old
-    row_found (bitmap r bits ∷ rs) o size (inr old) = row_found rs o size old
+    row_found (r ∷ rs) o size is = by (row_found rs o size) (row_case r) is
+      where
+        by : (IsIn (onode c o size) rs → is_some (finite.get (objects_in c rs) o) ≡ true) → (k : RowCase r) → IsIn (onode c o size) (r ∷ rs) → is_some (finite.get (put_of c k (objects_in c rs)) o) ≡ true
+        by before (of_onode d u n e) there =
+            row_put d u n rs (equal_or_not d c) o size before (subst (λ (x : Row). IsIn (onode c o size) (x ∷ rs)) e there)
+        by before (of_coll d e) (inl same) = absurd (let never = sym e ∙ same in cc)
+        by before (of_coll d e) (inr old) = before old
+        by before (of_shard e) (inl same) = absurd (let never = sym e ∙ same in cc)
+        by before (of_shard e) (inr old) = before old
+        by before (of_other _ no_onode _) (inl same) = absurd (no_onode c o size same)
+        by before (of_other _ _ _) (inr old) = before old
 
   -- ---- the collections
 
   module _ (all : List Row) where
     -- each has the objects of all rows
+    abbrev made_of : {r : Row} → RowCase r → Objects → Objects
+    made_of (of_coll c is) m = finite.insert m c (objects_in c all)
+    made_of (of_onode d o size is) m = m
+    made_of (of_shard is) m = m
+    made_of (of_other _ _ _) m = m
+
     abbrev colls_of : List Row → Objects
     colls_of [] = finite.empty
-    colls_of (collection c ∷ rs) = finite.insert (colls_of rs) c (objects_in c all)
-    colls_of (onode d o size ∷ rs) = colls_of rs
-    colls_of (shard d o page extents ∷ rs) = colls_of rs
-    colls_of (attribute d u name v ∷ rs) = colls_of rs
-    colls_of (omap_header d u v ∷ rs) = colls_of rs
-    colls_of (omap_pair d u k v ∷ rs) = colls_of rs
-    colls_of (bitmap r bits ∷ rs) = colls_of rs
+    colls_of (r ∷ rs) = made_of (row_case r) (colls_of rs)
 
     -- a collection is as its row says
     abbrev IsOfColl : List ℕ → Collection → List Row → Type 0
@@ -141,41 +141,40 @@ module _ (rows : Rows) where
 
     coll_row : (rs : List Row) (c : List ℕ) (found : Collection) → finite.get (colls_of rs) c ≡ Some found → IsOfColl c found rs
     coll_row [] c found is = absurd (let e = sym (finite.get-empty byte_order c) ∙ is in cc)
-    coll_row (collection d ∷ rs) c found is = elim (equal_or_not c d) [
-      | inl e ↦
-          let m : Objects = finite.insert (colls_of rs) d (objects_in d all) in
-          let here = same_Some found (objects_in d all) (sym is ∙ ap (finite.get m) e ∙ get_same (colls_of rs) d (objects_in d all)) in
-          (here ∙ ap (λ (x : List ℕ). objects_in x all) (sym e), inl (ap collection (sym e)))
-      | inr apart ↦
-          let old = coll_row rs c found (sym (get_other (colls_of rs) d (objects_in d all) c apart) ∙ is) in
-          (old.0, inr old.1)
-    ]
-    coll_row (onode d o size ∷ rs) c found is = let old = coll_row rs c found is in (old.0, inr old.1)
-    coll_row (shard d o page extents ∷ rs) c found is = let old = coll_row rs c found is in (old.0, inr old.1)
-    coll_row (attribute d u name v ∷ rs) c found is = let old = coll_row rs c found is in (old.0, inr old.1)
-    coll_row (omap_header d u v ∷ rs) c found is = let old = coll_row rs c found is in (old.0, inr old.1)
-    coll_row (omap_pair d u k v ∷ rs) c found is = let old = coll_row rs c found is in (old.0, inr old.1)
-    coll_row (bitmap r bits ∷ rs) c found is = let old = coll_row rs c found is in (old.0, inr old.1)
+    coll_row (r ∷ rs) c found is = by (coll_row rs c found) (row_case r) is
+      where
+        old : IsOfColl c found rs → IsOfColl c found (r ∷ rs)
+        old is = (is.0, inr is.1)
+
+        by : (finite.get (colls_of rs) c ≡ Some found → IsOfColl c found rs) → (k : RowCase r) → finite.get (made_of k (colls_of rs)) c ≡ Some found → IsOfColl c found (r ∷ rs)
+        by before (of_coll d e) got = elim (equal_or_not c d) [
+          | inl same ↦
+              let m : Objects = finite.insert (colls_of rs) d (objects_in d all) in
+              let here = same_Some found (objects_in d all) (sym got ∙ ap (finite.get m) same ∙ get_same (colls_of rs) d (objects_in d all)) in
+              (here ∙ ap (λ (x : List ℕ). objects_in x all) (sym same), inl (e ∙ ap collection (sym same)))
+          | inr apart ↦ old (before (sym (get_other (colls_of rs) d (objects_in d all) c apart) ∙ got))
+        ]
+        by before (of_onode d o size e) got = old (before got)
+        by before (of_shard e) got = old (before got)
+        by before (of_other _ _ _) got = old (before got)
 
     row_coll : (rs : List Row) (c : List ℕ) → IsIn (collection c) rs → is_some (finite.get (colls_of rs) c) ≡ true
     row_coll [] c is = absurd is
-    row_coll (collection d ∷ rs) c (inl e) =
-        let m : Objects = finite.insert (colls_of rs) d (objects_in d all) in
-        let name : c ≡ d = cc in
-        ap (λ (x : List ℕ). is_some (finite.get m x)) name ∙ ap is_some (get_same (colls_of rs) d (objects_in d all))
-    row_coll (collection d ∷ rs) c (inr old) = some_after (colls_of rs) d (objects_in d all) c (row_coll rs c old)
-    row_coll (onode d o size ∷ rs) c (inl e) = absurd cc
-    row_coll (onode d o size ∷ rs) c (inr old) = row_coll rs c old
-    row_coll (shard d o page extents ∷ rs) c (inl e) = absurd cc
-    row_coll (shard d o page extents ∷ rs) c (inr old) = row_coll rs c old
-    row_coll (attribute d u name v ∷ rs) c (inl e) = absurd cc
-    row_coll (omap_header d u v ∷ rs) c (inl e) = absurd cc
-    row_coll (omap_pair d u k v ∷ rs) c (inl e) = absurd cc
-    row_coll (bitmap r bits ∷ rs) c (inl e) = absurd cc
-    row_coll (attribute d u name v ∷ rs) c (inr old) = row_coll rs c old
-    row_coll (omap_header d u v ∷ rs) c (inr old) = row_coll rs c old
-    row_coll (omap_pair d u k v ∷ rs) c (inr old) = row_coll rs c old
-    row_coll (bitmap r bits ∷ rs) c (inr old) = row_coll rs c old
+    row_coll (r ∷ rs) c is = by (row_coll rs c) (row_case r) is
+      where
+        by : (IsIn (collection c) rs → is_some (finite.get (colls_of rs) c) ≡ true) → (k : RowCase r) → IsIn (collection c) (r ∷ rs) → is_some (finite.get (made_of k (colls_of rs)) c) ≡ true
+        by before (of_coll d e) (inl same) =
+            let m : Objects = finite.insert (colls_of rs) d (objects_in d all) in
+            let both : collection d ≡ collection c = sym e ∙ same in
+            let name : c ≡ d = cc in
+            ap (λ (x : List ℕ). is_some (finite.get m x)) name ∙ ap is_some (get_same (colls_of rs) d (objects_in d all))
+        by before (of_coll d e) (inr old) = some_after (colls_of rs) d (objects_in d all) c (before old)
+        by before (of_onode d o size e) (inl same) = absurd (let never = sym e ∙ same in cc)
+        by before (of_onode d o size e) (inr old) = before old
+        by before (of_shard e) (inl same) = absurd (let never = sym e ∙ same in cc)
+        by before (of_shard e) (inr old) = before old
+        by before (of_other no_coll _ _) (inl same) = absurd (no_coll c same)
+        by before (of_other _ _ _) (inr old) = before old
 
 -- ---- rows of which none is bad
 
@@ -229,35 +228,18 @@ module _ (s : Super) (rows : Rows) (good : NoBadRow s rows) where
 
   -- the row of a collection
   coll_in : (c : List ℕ) → HasKey rows (coll_key c) → IsIn (collection c) all_rows
-  coll_in c has = let found = has_in (coll_key c) has in is_coll found.0 found.1.0 found.1.1
-    where
-      is_coll : (r : Row) → coll_key c ≡ row_key r → IsIn r all_rows → IsIn (collection c) all_rows
-      is_coll (collection d) e is = subst (λ (x : List ℕ). IsIn (collection x) all_rows) (sym (same_coll c d e)) is
-      is_coll (onode d u size) e is = absurd (coll_no_object c d u _ e)
-      is_coll (shard d u page extents) e is = absurd (coll_no_object c d u _ e)
-      is_coll (attribute d u n v) e is = absurd (omega (arith, same_head _ _ _ _ e))
-      is_coll (omap_header d u v) e is = absurd (omega (arith, same_head _ _ _ _ e))
-      is_coll (omap_pair d u k v) e is = absurd (omega (arith, same_head _ _ _ _ e))
-      is_coll (bitmap r bits) e is = absurd (bitmap_no_coll r c (sym e))
+  coll_in c has =
+      let found = has_in (coll_key c) has in
+      let fits : FitsRow (width_of s) found.0 = (stands_in found.0 found.1.1).0.fits in
+      subst (λ (x : Row). IsIn x all_rows) (under_coll (width_of s) c found.0 fits found.1.0) found.1.1
 
   -- the onode of an object
   onode_in : (c o : List ℕ) → IsCollName c → IsName o → HasKey rows (onode_key c o) → (size : ℕ) × IsIn (onode c o size) all_rows
-  onode_in c o coll name has = let found = has_in (onode_key c o) has in is_onode found.0 found.1.0 found.1.1
-    where
-      is_onode : (r : Row) → onode_key c o ≡ row_key r → IsIn r all_rows → (size : ℕ) × IsIn (onode c o size) all_rows
-      is_onode (collection d) e is = absurd (coll_no_object d c o _ (sym e))
-      is_onode (onode d u size) e is =
-          let fits : FitsRow (width_of s) (onode d u size) = (stands_in (onode d u size) is).0.fits in
-          let same = same_onode c o d u coll name fits.0 fits.1 e in
-          let here : onode d u size ≡ onode c o size = λ i. onode (sym same.0 i) (sym same.1 i) size in
-          (size, subst (λ (x : Row). IsIn x all_rows) here is)
-      is_onode (shard d u page extents) e is =
-          let fits : FitsRow (width_of s) (shard d u page extents) = (stands_in (shard d u page extents) is).0.fits in
-          absurd (onode_no_shard c o d u page coll name fits.coll_name fits.object_name e)
-      is_onode (attribute d u n v) e is = absurd (omega (arith, same_head _ _ _ _ e))
-      is_onode (omap_header d u v) e is = absurd (omega (arith, same_head _ _ _ _ e))
-      is_onode (omap_pair d u k v) e is = absurd (omega (arith, same_head _ _ _ _ e))
-      is_onode (bitmap r bits) e is = absurd (bitmap_no_object r c o _ (sym e))
+  onode_in c o coll name has =
+      let found = has_in (onode_key c o) has in
+      let fits : FitsRow (width_of s) found.0 = (stands_in found.0 found.1.1).0.fits in
+      let is = under_onode (width_of s) c o found.0 coll name fits found.1.0 in
+      (is.0, subst (λ (x : Row). IsIn x all_rows) is.1 found.1.1)
 
   -- ---- the objects
 

@@ -6,10 +6,10 @@ use Rattle.std.proofs.lemmas.Option.{same_Some}
 use Rattle.unit_fields.specs.declared.width.Width.{Width}
 use Rattle.crc32c_csum.specs.Prelude.{crc32c}
 use Rattle.block_device.specs.Prelude.{Disk, History, last_at, HasNoBadDone}
-use Rattle.object_model.specs.declared.command.Command.TheVariants as ask
+use Rattle.object_model.specs.declared.command.Read.TheVariants as reads
 use Rattle.object_model.specs.declared.command.Answer.{Answer}
 use Rattle.object_model.specs.declared.command.Answer.TheVariants as answer
-use Rattle.object_model.specs.Prelude.{Object, Collection, Objects, object_under, reply_of}
+use Rattle.object_model.specs.Prelude.{Object, Collection, Objects, object_under, read_reply}
 use Rattle.byte_maps.specs.ByteMap.{ByteMap}
 use Rattle.unit_fields.specs.Prelude.{IsName}
 use Rattle.meta_rows.specs.Prelude.{Rows}
@@ -21,7 +21,7 @@ use Rattle.read_facts.specs.declared.view.BadSum.{BadSum}
 use Rattle.read_facts.specs.declared.view.CollView.{CollView}
 use Rattle.read_facts.specs.declared.view.ObjectView.{ObjectView}
 use Rattle.read_facts.specs.declared.view.ValueView.{ValueView}
-use Rattle.read_facts.specs.Prelude.{IsCollection, IsObject, IsHeldAt, Gives, IsValue, value_names, AreValues, sum_answer, IsViewOf, object_names, coll_names, IsViewed, IsWhole, AreWholeButLast, WalksTo, WalksAll, values_in, object_view, views_in, views_of, IsGoodView, HasGoodViews}
+use Rattle.read_facts.specs.Prelude.{IsCollection, IsObject, IsHeldAt, Gives, IsValueOf, value_names, AreValues, sum_answer, IsViewOf, object_names, coll_names, IsViewed, IsWhole, AreWholeButLast, WalksTo, WalksAll, values_in, object_view, views_in, views_of, IsGoodView, HasGoodViews}
 use Rattle.read_facts.proofs.Walks.{one_order, each_is, all_to, all_by, got_each, keys_are_all}
 use Rattle.read_facts.proofs.Keys.{coll_keys, object_keys, under_found, some_of}
 use Rattle.read_facts.proofs.Found.{sum_taken}
@@ -73,8 +73,8 @@ module _ (key_of : List ℕ → List ℕ) (rows : Rows) (m : ByteMap (List ℕ))
   pub values_are : (values : List ValueView) → AreValues key_of rows values → values ≡ values_in m
   values_are values are =
       let names : value_names values ≡ finite.keys m =
-      one_order (IsValue key_of rows) (value_names values) (finite.keys m) are.all
-      (keys_are_all (IsValue key_of rows) m (λ name its. ap is_some (same name its.named) ∙ its.there) (λ name has.
+      one_order (IsValueOf key_of rows) (value_names values) (finite.keys m) are.all
+      (keys_are_all (IsValueOf key_of rows) m (λ name its. ap is_some (same name its.named) ∙ its.there) (λ name has.
       let is : IsName name = named name has in
       record { named = is; there = sym (ap is_some (same name is)) ∙ has })) in
       made_of (λ (v : ValueView). v.name) (λ (e : List ℕ × List ℕ). e.0) (λ (e : List ℕ × List ℕ). record { name = e.0; value = e.1 })
@@ -94,21 +94,21 @@ module _ (w : Width) (memory : ℕ → Option (List ℕ)) (d : Disk) (h : Histor
   module _ (c o : List ℕ) (coll : IsCollection rows c) (is : IsObject rows c o) (object : Object)
       (under : object_under objects c o ≡ Some object) where
     -- the reply to a sum is the object's
-    sum_reply : answer.Sum (length object.bytes) (crc32c object.bytes) ≡ reply_of (ask.Sum c o) objects
+    sum_reply : answer.Sum (length object.bytes) (crc32c object.bytes) ≡ read_reply (reads.Sum c o) objects
     sum_reply =
         let given = sum_given objects c o (sum_taken rows c o coll.named is.named coll.there is.there objects stand.shape) in
         let same : object ≡ given.object = same_Some object given.object (sym under ∙ given.under) in
         ap (λ (b : Object). answer.Sum (length b.bytes) (crc32c b.bytes)) same ∙ sym given.reply
 
     -- the checksum in a view is the object's
-    sum_is : (size : ℕ) (sum : Result ℕ BadSum) → Gives w memory (IsHeldAt d) rows (ask.Sum c o) (sum_answer size sum)
+    sum_is : (size : ℕ) (sum : Result ℕ BadSum) → Gives w memory (IsHeldAt d) rows (reads.Sum c o) (sum_answer size sum)
         → sum ≡ Ok (crc32c object.bytes)
     sum_is size (Ok crc) gives =
-        let e = seen_answer w memory d h tells rows answered at valued objects stand (ask.Sum c o) (answer.Sum size crc) (coll.named, is.named)
+        let e = seen_answer w memory d h tells rows answered at valued objects stand (reads.Sum c o) (answer.Sum size crc) (coll.named, is.named)
         (sum_taken rows c o coll.named is.named coll.there is.there, gives) in
         ap Ok (ap crc_of (e ∙ sym sum_reply))
     sum_is size (Err bad) gives =
-        let e = seen_answer w memory d h tells rows answered at valued objects stand (ask.Sum c o) (answer.Csum bad.unit bad.kept bad.found)
+        let e = seen_answer w memory d h tells rows answered at valued objects stand (reads.Sum c o) (answer.Csum bad.unit bad.kept bad.found)
         (coll.named, is.named) (sum_taken rows c o coll.named is.named coll.there is.there, gives) in
         absurd (let same = e ∙ sym sum_reply in cc)
 

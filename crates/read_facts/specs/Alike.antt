@@ -4,16 +4,17 @@ use Rattle.std.specs.Prelude.{◌≡◌, ◌⊎◌, ℕ, ⊤, not, nat_eq, List,
 use Rattle.std.specs.List.{AllByRecursion, IsDistinct}
 use Rattle.object_model.specs.declared.command.Command.{Command}
 use Rattle.object_model.specs.declared.command.Command.TheVariants as ask
+use Rattle.object_model.specs.declared.command.Read.TheVariants as reads
 use Rattle.object_model.specs.declared.command.Answer.{Answer}
 use Rattle.object_model.specs.declared.command.Answer.TheVariants as answer
 use Rattle.object_model.specs.declared.book.Entry.{Entry}
 use Rattle.object_model.specs.declared.book.Book.{Book}
-use Rattle.object_model.specs.Prelude.{Objects, replay, reply_of, accepted, is_refused, is_of_device, change_at, IsPrefixOf, places_of, committed_places, AreAckedFrom, acked_count, AreCountsWithin}
+use Rattle.object_model.specs.Prelude.{Objects, replay, reply_of, accepted, is_refused, is_of_device, change_at, IsPrefixOf, entry_places, committed_places, AreAckedFrom, acked_count, AreCountsWithin}
 
 -- the answers are the same, or two to a read of bytes that are as many, or two to their sum that say the same size
 abbrev pub IsAlike : Command → Answer → Answer → Type 0
-IsAlike (ask.Read c o off len) (answer.Bytes a) (answer.Bytes b) = length a ≡ length b
-IsAlike (ask.Sum c o) (answer.Sum size crc) (answer.Sum other_size other_crc) = size ≡ other_size
+IsAlike (ask.Read (reads.Bytes c o off len)) (answer.Bytes a) (answer.Bytes b) = length a ≡ length b
+IsAlike (ask.Read (reads.Sum c o)) (answer.Sum size crc) (answer.Sum other_size other_crc) = size ≡ other_size
 IsAlike command a b = a ≡ b
 
 -- an entry has an answer like the one that these objects give, or one of the device's where they give no refusal
@@ -31,7 +32,7 @@ pub record IsLegalButBytes (objects : Objects) (book : Book) : Type 0 where
   pub answers : AnswersAlikeFrom objects book.entries
   pub of_accepted : AllByRecursion (λ c. IsSome (change_at book.entries c.place)) book.commits
   pub once : IsDistinct nat_eq (map (λ c. c.place) book.commits)
-  pub in_order : (coll : List ℕ) → IsPrefixOf (committed_places coll book.entries book.commits) (places_of coll book.entries)
+  pub in_order : (coll : List ℕ) → IsPrefixOf (committed_places coll book.entries book.commits) (entry_places coll book.entries)
   pub acked_first : AreAckedFrom 0 book.commits
   pub counts : AreCountsWithin 0 (acked_count book.commits) book.entries
 

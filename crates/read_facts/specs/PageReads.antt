@@ -97,7 +97,7 @@ abbrev pub pages_read : ℕ → ℕ → ℕ → ℕ
 pages_read size off len = if nat_lt off (read_end size off len) then pages_of (read_end size off len) - off / 4096 else 0
 
 -- the bytes of a range of an object, cut at its size, where all pages that must be read are good
-pub record ReadsBytes (w : Width) (memory : ℕ → Option (List ℕ)) (held : ℕ → List ℕ → Type 0) (rows : Rows) (c o : List ℕ)
+pub record ReadsRange (w : Width) (memory : ℕ → Option (List ℕ)) (held : ℕ → List ℕ → Type 0) (rows : Rows) (c o : List ℕ)
     (size off len : ℕ) (bytes : List ℕ) : Type 0 where
   pub has_size : HasOnode rows c o size
   pub pages : List ℕ

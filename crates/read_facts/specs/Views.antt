@@ -7,7 +7,7 @@ use Rattle.crc32c_csum.specs.Prelude.{crc32c}
 use Rattle.byte_maps.specs.ByteMap.{ByteMap}
 use Rattle.unit_fields.specs.Prelude.{IsName}
 use Rattle.object_model.specs.Prelude.{Object, Collection, Objects}
-use Rattle.object_model.specs.declared.command.Command.TheVariants as ask
+use Rattle.object_model.specs.declared.command.Read.TheVariants as reads
 use Rattle.object_model.specs.declared.command.Answer.{Answer}
 use Rattle.object_model.specs.declared.command.Answer.TheVariants as answer
 use Rattle.meta_rows.specs.Prelude.{Rows, row}
@@ -23,7 +23,7 @@ use Rattle.read_facts.specs.Answers.{Gives}
 -- ---- an object's values of one kind: its attributes, or the pairs of its omap
 
 -- the rows have a value of this name, by the key of its row
-pub record IsValue (key_of : List ℕ → List ℕ) (rows : Rows) (name : List ℕ) : Type 0 where
+pub record IsValueOf (key_of : List ℕ → List ℕ) (rows : Rows) (name : List ℕ) : Type 0 where
   pub named : IsName name
   pub there : HasKey rows (key_of name)
 
@@ -32,7 +32,7 @@ value_names values = map (λ v. v.name) values
 
 -- these are all of them, in the byte order of their names
 pub record AreValues (key_of : List ℕ → List ℕ) (rows : Rows) (values : List ValueView) : Type 0 where
-  pub all : AreAll (IsValue key_of rows) (value_names values)
+  pub all : AreAll (IsValueOf key_of rows) (value_names values)
   pub each : AllByRecursion (λ v. finite.get rows (key_of v.name) ≡ Some v.value) values
 
 -- ---- objects, collections and all of them
@@ -46,8 +46,8 @@ sum_answer size (Err bad) = answer.Csum bad.unit bad.kept bad.found
 pub record IsViewOf (w : Width) (memory : ℕ → Option (List ℕ)) (held : ℕ → List ℕ → Type 0) (rows : Rows) (c : List ℕ)
     (v : ObjectView) : Type 0 where
   pub is : IsObject rows c v.name
-  pub has_size : Gives w memory held rows (ask.Stat c v.name) (answer.Size v.size)
-  pub sums : Gives w memory held rows (ask.Sum c v.name) (sum_answer v.size v.sum)
+  pub has_size : Gives w memory held rows (reads.Stat c v.name) (answer.Size v.size)
+  pub sums : Gives w memory held rows (reads.Sum c v.name) (sum_answer v.size v.sum)
   pub attrs : AreValues (attr_key c v.name) rows v.attrs
   pub header : v.header ≡ row rows (header_key c v.name)
   pub omap : AreValues (omap_key c v.name) rows v.omap

@@ -6,7 +6,8 @@ ghost use Rattle.block_device.specs.Prelude.{Disk, History, last_at, HasNoBadDon
 ghost use Rattle.meta_rows.specs.Prelude.{Rows};
 ghost use Rattle.meta_log.specs.declared.slot.Super.{Super};
 ghost use Rattle.object_model.specs.Prelude.{Collection, Objects, reply_of, is_refused, is_of_device};
-ghost use Rattle.object_model.specs.declared.command.Command.{Command};
+ghost use Rattle.object_model.specs.declared.command.Command.TheVariants as ask;
+ghost use Rattle.object_model.specs.declared.command.Read.{Read};
 ghost use Rattle.object_model.specs.declared.command.Answer.{Answer};
 ghost use Rattle.row_format.specs.Prelude.{own};
 ghost use Rattle.store_image.specs.Prelude.{HasOnode, NoBadRow, PageUnit, IsPageAt, IsPageOn, HasPage, IsShape, ObjectsStand};
@@ -68,9 +69,10 @@ pub fn bytes_in_memory_are_read()
 /// Whatever is in memory and the device tells, a read is answered as objects would answer that have the shape of the rows, but for the bytes that
 /// it gives; or by a bad unit where they don't refuse it.
 pub fn reads_are_plain_but_for_bytes()
-    ensures { (w : Width) (memory : ℕ → Option (List ℕ)) (d : Disk) (rows : Rows) (objects : Objects) (command : Command) (a : Answer)
-        → IsShape rows objects → HasReadNames command → IsAnswerOf w memory (IsHeldAt d) rows command a → IsAlike command a (reply_of command objects)
-        ⊎ (IsTrue (is_of_device command a) × IsTrue (not (is_refused (reply_of command objects)))) }
+    ensures { (w : Width) (memory : ℕ → Option (List ℕ)) (d : Disk) (rows : Rows) (objects : Objects) (read : Read) (a : Answer)
+        → IsShape rows objects → HasReadNames read → IsAnswerOf w memory (IsHeldAt d) rows read a
+        → IsAlike (ask.Read read) a (reply_of (ask.Read read) objects)
+        ⊎ (IsTrue (is_of_device (ask.Read read) a) × IsTrue (not (is_refused (reply_of (ask.Read read) objects)))) }
 {}
 
 /// Where the device tells what it holds, no write ended badly of a unit of the rows' pages that isn't in memory, and rows and units stand for
@@ -78,10 +80,10 @@ pub fn reads_are_plain_but_for_bytes()
 /// written there.
 pub fn reads_are_as_plain_objects()
     ensures { (w : Width) (memory : ℕ → Option (List ℕ)) (d : Disk) (h : History) (at : ℕ → List ℕ) (rows : Rows) (objects : Objects)
-        (command : Command) (a : Answer) → d.history ≡ Some h
+        (read : Read) (a : Answer) → d.history ≡ Some h
         → ((unit : ℕ) → HasPage w rows unit → memory unit ≡ None → HasNoBadDone h.log unit)
-        → ((unit : ℕ) → at unit ≡ unwrap_or (memory unit) (last_at h unit)) → ObjectsStand w at rows objects → HasReadNames command
-        → IsAnswerOf w memory (IsHeldAt d) rows command a → a ≡ reply_of command objects }
+        → ((unit : ℕ) → at unit ≡ unwrap_or (memory unit) (last_at h unit)) → ObjectsStand w at rows objects → HasReadNames read
+        → IsAnswerOf w memory (IsHeldAt d) rows read a → a ≡ reply_of (ask.Read read) objects }
 {}
 
 /// So is what a unit with a page is found to hold, and no place of a page of these objects is on a bad unit.

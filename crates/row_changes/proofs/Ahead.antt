@@ -17,7 +17,7 @@ use Rattle.byte_maps.proofs.Places.{find_below, below_more}
 use Rattle.meta_rows.specs.Prelude.{Rows, rows_from_to}
 use Rattle.meta_rows.specs.Table.{is_from_to}
 use Rattle.row_changes.specs.declared.row_change.RowChange.{RowChange}
-use Rattle.row_changes.specs.Log.{Rise}
+use Rattle.row_changes.specs.Log.{ChangesRise}
 use Rattle.row_changes.proofs.Sorted.{held_all}
 use Rattle.row_changes.specs.Ahead.{IsFirstBelow, AreLeft, LieAhead, LieAheadOf}
 
@@ -151,7 +151,7 @@ ahead_next rows ahead None c up is = subst (λ a. LieAhead rows a c.key) (sym is
 ahead_next rows ahead (Some h) c up lie = ahead_later rows ahead h.key c.key up lie
 
 -- of changes in order the next one's key isn't below the last one's, and the others are in order
-pub rise_next : (held : Option RowChange) (c : RowChange) (rest : List RowChange) → Rise (held_all held ++ (c ∷ rest))
-    → IfSome held (λ h. is_lt (byte_order c.key h.key) ≡ false) × Rise (c ∷ rest)
+pub rise_next : (held : Option RowChange) (c : RowChange) (rest : List RowChange) → ChangesRise (held_all held ++ (c ∷ rest))
+    → IfSome held (λ h. is_lt (byte_order c.key h.key) ≡ false) × ChangesRise (c ∷ rest)
 rise_next None c rest rise = (tt, rise)
 rise_next (Some h) c rest rise = (rise.0.0, rise.1)

@@ -11,8 +11,8 @@ use Rattle.object_model.specs.Prelude.{is_same}
 use Rattle.meta_rows.specs.Prelude.{Rows, rows_from_to}
 use Rattle.meta_rows.specs.declared.row_op.RowOp.{RowOp}
 use Rattle.row_changes.specs.declared.row_change.RowChange.{RowChange}
-use Rattle.row_changes.specs.Seen.{ChangeMap, seen, IsChanged, DropsRange, IsDifferenceBy}
-use Rattle.row_changes.specs.Log.{logged, last_for, ops_of, Rise, lasts}
+use Rattle.row_changes.specs.Seen.{ChangeMap, value_seen, IsChanged, DropsRange, IsDifferenceBy}
+use Rattle.row_changes.specs.Log.{logged, last_for, ops_of, ChangesRise, lasts}
 use Rattle.row_changes.proofs.Keys.{same_itself, same_or_not}
 use Rattle.row_changes.proofs.Ranges.{Entry, range_find}
 use Rattle.row_changes.proofs.Puts.{all_map, makes_all, puts_ascend, puts_change, put_keys}
@@ -41,18 +41,18 @@ module _ (rows : Rows) where
   seen_by false value old o t = refl
 
   pub seen_insert : (m : ChangeMap) (k : List ℕ) (value : Option (List ℕ)) (key : List ℕ)
-      → seen rows (finite.insert m k value) key ≡ cond (is_same k key) value (seen rows m key)
+      → value_seen rows (finite.insert m k value) key ≡ cond (is_same k key) value (value_seen rows m key)
   seen_insert m k value key = ap (λ (o : Option (Option (List ℕ))). unwrap_or o (finite.get rows key)) (insert_get m k value key)
       ∙ seen_by (is_same k key) value (finite.get rows key) (finite.get m key) refl
 
-  pub logged_seen : (m : ChangeMap) (cs : List RowChange) (key : List ℕ) → seen rows (logged m cs) key ≡ last_for cs key (seen rows m key)
+  pub logged_seen : (m : ChangeMap) (cs : List RowChange) (key : List ℕ) → value_seen rows (logged m cs) key ≡ last_for cs key (value_seen rows m key)
   logged_seen m [] key = refl
   logged_seen m (c ∷ cs) key = logged_seen (finite.insert m c.key c.value) cs key ∙ ap (last_for cs key) (seen_insert m c.key c.value key)
 
-  seen_empty : (key : List ℕ) → seen rows finite.empty key ≡ finite.get rows key
+  seen_empty : (key : List ℕ) → value_seen rows finite.empty key ≡ finite.get rows key
   seen_empty key = ap (λ (o : Option (Option (List ℕ))). unwrap_or o (finite.get rows key)) (finite.get-empty byte_order key)
 
-  pub log_seen : (cs : List RowChange) (key : List ℕ) → seen rows (logged finite.empty cs) key ≡ last_for cs key (finite.get rows key)
+  pub log_seen : (cs : List RowChange) (key : List ℕ) → value_seen rows (logged finite.empty cs) key ≡ last_for cs key (finite.get rows key)
   log_seen cs key = logged_seen finite.empty cs key ∙ ap (last_for cs key) (seen_empty key)
 
 -- ---- which keys are changed
@@ -99,7 +99,7 @@ decided_changed cs key decides = by (finite.get (logged finite.empty cs) key) re
 -- ---- the difference
 
 pub difference_is : (rows : Rows) (log sorted : List RowChange) (ops : List RowOp)
-    → ((key : List ℕ) (old : Option (List ℕ)) → last_for sorted key old ≡ last_for log key old) → Rise sorted
+    → ((key : List ℕ) (old : Option (List ℕ)) → last_for sorted key old ≡ last_for log key old) → ChangesRise sorted
     → ops ≡ ops_of rows (lasts sorted) → IsDifferenceBy rows (logged finite.empty log) ops
 difference_is rows log sorted ops same up is = subst (IsDifferenceBy rows (logged finite.empty log)) (sym is) (record {
   in_order = puts_ascend rows (lasts sorted) (lasts_ascend sorted up);

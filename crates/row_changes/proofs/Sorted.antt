@@ -14,7 +14,7 @@ use Rattle.object_model.specs.Prelude.{is_same}
 use Rattle.meta_rows.specs.Prelude.{Rows}
 use Rattle.meta_rows.specs.declared.row_op.RowOp.{RowOp}
 use Rattle.row_changes.specs.declared.row_change.RowChange.{RowChange}
-use Rattle.row_changes.specs.Log.{op_of, ops_of, last_for, Rise, kept, kept_of, lasts}
+use Rattle.row_changes.specs.Log.{op_of, ops_of, last_for, ChangesRise, kept, kept_of, lasts}
 use Rattle.row_changes.proofs.Keys.{same_itself, same_or_not}
 use Rattle.row_changes.proofs.Puts.{all_map, Ascend, puts_append}
 
@@ -59,7 +59,7 @@ rises_from : (x : RowChange) (xs : List RowChange) → ((j : ℕ) → j < length
 rises_from x [] h = tt
 rises_from x (y ∷ xs) h = (h 0 (omega arith), rises_from x xs (λ j l. h (suc j) (omega (arith, l))))
 
-pub rises : (xs : List RowChange) → IsStrictWeakOrder is_before → IsSortedBy is_before xs → Rise xs
+pub rises : (xs : List RowChange) → IsStrictWeakOrder is_before → IsSortedBy is_before xs → ChangesRise xs
 rises [] o up = tt
 rises (x ∷ xs) o up = (
   rises_from x xs (λ j l. sorted_far is_before o (x ∷ xs) up 0 (suc j) x (omega arith) (omega (arith, l))),
@@ -94,7 +94,7 @@ lasts_all P (w ∷ x ∷ xs) all = elim (is_same w.key x.key) as (λ (b : Bool).
   | false ↦ (all.0, lasts_all P (x ∷ xs) all.1)
 ]
 
-pub lasts_ascend : (ws : List RowChange) → Rise ws → Ascend (lasts ws)
+pub lasts_ascend : (ws : List RowChange) → ChangesRise ws → Ascend (lasts ws)
 lasts_ascend [] up = tt
 lasts_ascend (w ∷ []) up = (tt, tt)
 lasts_ascend (w ∷ x ∷ xs) up = elim (is_same w.key x.key) as (λ (b : Bool). is_same w.key x.key ≡ b → Ascend (cond b [] (w ∷ []) ++ lasts (x ∷ xs))) [

@@ -1,8 +1,8 @@
 -- Changes in the order in which they came, and those of each key brought together.
 use Rattle.std.specs.Prelude.{◌≡◌, ℕ, Bool, true, false, List, [], ◌∷◌, ◌++◌, Option, Some, None, if◌then◌else◌}
-use Rattle.std.specs.List.{AllByRecursion}
 use Rattle.std.specs.Ordering.{is_lt}
 use Rattle.std.specs.FinMap as finite
+use Rattle.ordered_lists.specs.Lists.{Ascend}
 use Rattle.byte_maps.specs.ByteMap.{byte_order}
 use Rattle.object_model.specs.Prelude.{is_same}
 use Rattle.meta_rows.specs.Prelude.{Rows}
@@ -33,20 +33,19 @@ op_to key (Some value) = Set key value
 op_to key None = Drop key
 
 -- none where it is so
-abbrev pub op_at : Option (List ℕ) → RowChange → List RowOp
-op_at held c = if is_value held c.value then [] else op_to c.key c.value ∷ []
+abbrev pub op_unless_same : Option (List ℕ) → RowChange → List RowOp
+op_unless_same held c = if is_value held c.value then [] else op_to c.key c.value ∷ []
 
 abbrev pub op_of : Rows → RowChange → List RowOp
-op_of rows c = op_at (finite.get rows c.key) c
+op_of rows c = op_unless_same (finite.get rows c.key) c
 
 abbrev pub ops_of : Rows → List RowChange → List RowOp
 ops_of rows [] = []
 ops_of rows (c ∷ cs) = op_of rows c ++ ops_of rows cs
 
 -- no key is below one before it
-abbrev pub Rise : List RowChange → Type 0
-Rise [] = Unit {0}
-Rise (c ∷ cs) = AllByRecursion (λ later. is_lt (byte_order later.key c.key) ≡ false) cs × Rise cs
+abbrev pub ChangesRise : List RowChange → Type 0
+ChangesRise cs = Ascend (λ c later. is_lt (byte_order later.key c.key) ≡ false) cs
 
 -- one, unless the next has its key
 abbrev pub kept : RowChange → List RowChange → List RowChange

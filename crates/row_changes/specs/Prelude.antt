@@ -1,2 +1,2 @@
 -- What other crates cite, passed on from one place.
-pub use Rattle.row_changes.specs.Seen.{ChangeMap, seen, IsChanged, DropsRange, IsDifferenceBy}
+pub use Rattle.row_changes.specs.Seen.{ChangeMap, value_seen, IsChanged, DropsRange, IsDifferenceBy}

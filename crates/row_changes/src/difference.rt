@@ -14,15 +14,15 @@ ghost use Rattle.row_changes.specs.Log.{
   logged,
   last_for,
   is_value,
-  op_at,
+  op_unless_same,
   ops_of,
   kept_of,
   lasts,
-  Rise,
+  ChangesRise,
 };
 
 use crate::row_change::RowChange;
-use byte_maps::{Bytes, Items};
+use byte_maps::{Bytes, Items, byte_order};
 use meta_rows::{RowOp, RowRange, RowTable};
 use std::alloc::{AllocError, Global};
 use std::cmp::Ordering;
@@ -32,7 +32,7 @@ fn is_value(held: Option<&Bytes>, value: Option<&Bytes>) -> bool
     ensures { result ≡ is_value (option_copied held.entry) (option_copied value.entry) }
 {
     match (held, value) {
-        (Some(held), Some(value)) => held.as_slice().cmp(value.as_slice()) == Ordering::Equal,
+        (Some(held), Some(value)) => byte_order(held.as_slice(), value.as_slice()) == Ordering::Equal,
         (None, None) => true,
         _ => false,
     }
@@ -49,7 +49,7 @@ fn value_by_first<'a>(ahead: &mut RowRange<'a>, key: &[u8]) -> Option<Option<&'a
     let Some((first, value)) = rest.next() else {
         return Some(None);
     };
-    match first.as_slice().cmp(key) {
+    match byte_order(first.as_slice(), key) {
         Ordering::Less => {
             *ahead = rest;
             None
@@ -111,7 +111,7 @@ fn last_value_of<'a>(
 
 // Adds the operation by which the row becomes so, where it isn't so.
 fn put(ops: &mut Items<RowOp>, held: Option<&Bytes>, change: RowChange) -> Result<(), AllocError>
-    ensures { OnOk result (ops.new ≡ ops.old ++ op_at (option_copied held.entry) change) }
+    ensures { OnOk result (ops.new ≡ ops.old ++ op_unless_same (option_copied held.entry) change) }
 {
     let RowChange { key, value } = change;
     if is_value(held, value.as_ref()) {
@@ -126,10 +126,10 @@ fn put(ops: &mut Items<RowOp>, held: Option<&Bytes>, change: RowChange) -> Resul
 // In the order of their keys, those of one key in the order in which they stand.
 fn by_key(log: Vec<RowChange>) -> Result<Vec<RowChange>, AllocError>
     ensures same { IfOk result (λ sorted. (key : List ℕ) (old : Option (List ℕ)) → last_for sorted.items key old ≡ last_for log.items key old) }
-    ensures rise { IfOk result (λ sorted. Rise sorted.items) }
+    ensures rise { IfOk result (λ sorted. ChangesRise sorted.items) }
 {
     let mut sorted = log;
-    sorted.sort_by(|one, other| one.key.as_slice().cmp(other.key.as_slice()))?;
+    sorted.sort_by(|one, other| byte_order(one.key.as_slice(), other.key.as_slice()))?;
     Ok(sorted)
 }
 
@@ -146,7 +146,7 @@ fn put_before<'a>(
     ensures ahead { OnOk result (LieAheadOf rows.now.rows ahead.new held) }
 {
     match held {
-        Some(change) if change.key.as_slice().cmp(next.key.as_slice()) != Ordering::Equal => {
+        Some(change) if byte_order(change.key.as_slice(), next.key.as_slice()) != Ordering::Equal => {
             let value = value_of(rows, ahead, change.key.as_slice());
             put(ops, value, change)
         }
@@ -160,7 +160,7 @@ fn put_lasts(
     rows: &RowTable,
     sorted: Vec<RowChange>,
 ) -> Result<Items<RowOp>, AllocError>
-    requires { Rise sorted.items }
+    requires { ChangesRise sorted.items }
     ensures { IfOk result (λ ops. ops ≡ ops_of rows.now.rows (lasts sorted.items)) }
 {
     let mut ops = Items::new(alloc);

@@ -6,7 +6,7 @@ ghost use Rattle.row_changes.specs.Seen.{DropsRange, IsDifferenceBy};
 
 use crate::difference::difference_of;
 use crate::row_change::RowChange;
-use byte_maps::{Bytes, Duplicate, Items};
+use byte_maps::{Bytes, Duplicate, Items, byte_order};
 use meta_rows::{RowOp, RowTable};
 use std::alloc::{AllocError, Global};
 use std::marker::Model;
@@ -37,7 +37,7 @@ impl Model for RowChanges {
 fn is_in_range(first: &[u8], end: &[u8], key: &[u8]) -> bool
     ensures { result ≡ in_range first.now end.now key.now }
 {
-    !key.cmp(first).is_lt() && key.cmp(end).is_lt()
+    !byte_order(key, first).is_lt() && byte_order(key, end).is_lt()
 }
 
 impl RowChanges {

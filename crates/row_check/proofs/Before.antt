@@ -14,17 +14,17 @@ use Rattle.onode_codec.specs.Reading.{SpellsOnode}
 use Rattle.onode_codec.proofs.Again.{same_onode}
 use Rattle.row_reading.specs.declared.row.Row.{Row}
 use Rattle.row_reading.specs.declared.row.Row.TheVariants as read
-use Rattle.row_reading.specs.Reading.{row_of}
+use Rattle.row_reading.specs.Reading.{format_row}
 use Rattle.row_check.specs.declared.passed.Passed.{Passed}
 use Rattle.row_check.specs.Bad.{IsFirst, IsLast, Knows, IsOfObject, IsPlacedOf, IsPlacedIn, IsOnodeOf, IsWithinOnode, ShardStands}
 
 module _ (s : Super) (rows : Rows) (Before : List ℕ → Type 0) where
   -- what is known of a last row
   abbrev IsLastOf : Option Row → Type 0
-  IsLastOf last = MatchOption last (IsFirst (width_of s) rows Before) (λ row. (value : List ℕ) × IsLast (width_of s) rows Before (row_of row value))
+  IsLastOf last = MatchOption last (IsFirst (width_of s) rows Before) (λ row. (value : List ℕ) × IsLast (width_of s) rows Before (format_row row value))
 
   abbrev IsPlaced : Option Row → Type 0
-  IsPlaced last = IfSome last (λ row. (value : List ℕ) → IsInPlace s rows (row_of row value))
+  IsPlaced last = IfSome last (λ row. (value : List ℕ) → IsInPlace s rows (format_row row value))
 
   same_object : (d u c o : List ℕ) → HasObject rows d u → (d ≡ c) × (u ≡ o) → HasObject rows c o
   same_object d u c o has same = subst (λ n. HasObject rows n o) same.0 (subst (λ n. HasObject rows d n) same.1 has)

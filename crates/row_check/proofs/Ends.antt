@@ -6,7 +6,7 @@ use Rattle.row_format.specs.Row as format
 use Rattle.ordered_lists.proofs.Joining.{all_joined}
 use Rattle.row_reading.specs.declared.row.Row.{Row}
 use Rattle.row_reading.specs.declared.row.Row.TheVariants as read
-use Rattle.row_reading.specs.Reading.{row_of}
+use Rattle.row_reading.specs.Reading.{format_row}
 use Rattle.unit_fields.specs.declared.width.Width.{Width}
 use Rattle.row_format.specs.Prelude.{Body, private, page_count, FitsExtent, FitsBody}
 use Rattle.row_check.specs.declared.passed.Passed.{Passed}
@@ -46,7 +46,7 @@ low_extents : (w : Width) (es : List Extent) → AllByRecursion (FitsExtent w) e
 low_extents w [] fit = tt
 low_extents w (e ∷ es) fit = (low_body w e.first e.body fit.0.first fit.0.body, low_extents w es fit.1)
 
-pub low_pages : (w : Width) (row : Row) (value : List ℕ) → format.FitsRow w (row_of row value) → HasLowPages row
+pub low_pages : (w : Width) (row : Row) (value : List ℕ) → format.FitsRow w (format_row row value) → HasLowPages row
 low_pages w (read.Shard c o page es) value fits = low_extents w es fits.fit
 low_pages w (read.Collection d) value fits = tt
 low_pages w (read.Onode d u size) value fits = tt

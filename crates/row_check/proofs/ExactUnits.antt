@@ -9,12 +9,12 @@ use Rattle.store_image.specs.Prelude.{HasSoleOwner, IsOwned, IsExactAs, IsInexac
 use Rattle.bitmap_freelist.specs.Bitmap as freelist
 use Rattle.bitmap_freelist.specs.Bitmap.{Units}
 use Rattle.row_check.specs.Marks.{Marks}
-use Rattle.row_check.specs.Owned.{AreOwned, AreShared, AreMarked}
-use Rattle.row_check.specs.Least.{IsLeast, IsLeastOf, IsWrong}
+use Rattle.row_check.specs.Owned.{AreOwned, AreShared, MarksOwners}
+use Rattle.row_check.specs.Least.{IsLeastUnit, IsLeastOf, IsWrong}
 use Rattle.row_check.proofs.MarkedRows.{same_or_not}
 
 -- an owned unit is one of those that have marks
-pub owned_below : (w : Width) (rows : Rows) (m : Marks) (units : ℕ) → AreMarked w rows m → length m.owned ≡ units → (unit : ℕ)
+pub owned_below : (w : Width) (rows : Rows) (m : Marks) (units : ℕ) → MarksOwners w rows m → length m.owned ≡ units → (unit : ℕ)
     → IsOwned w rows unit → unit < units
 owned_below w rows m units are many unit owned = elim (cases_lt unit units) [
   | inl lt ↦ lt
@@ -57,7 +57,7 @@ module _ (w : Width) (rows : Rows) (owned shared marked : Units) (units : ℕ) (
     | inr two ↦ inr ((are.shared_are unit).1 two)
   ]
 
-  least_inexact : (unit : ℕ) → IsLeast (IsWrong owned shared marked) unit → IsLeastInexact w rows unit
+  least_inexact : (unit : ℕ) → IsLeastUnit (IsWrong owned shared marked) unit → IsLeastInexact w rows unit
   least_inexact unit is =
       record { inexact = wrong_inexact unit is.holds; least = λ other less wrong. is.least other less (inexact_wrong other wrong) }
 

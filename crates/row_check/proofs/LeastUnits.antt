@@ -9,11 +9,11 @@ use Rattle.std.proofs.lemmas.Bool.{cases_lt, cases_eq}
 use Rattle.unit_fields.specs.Prelude.{Ascends}
 use Rattle.unit_fields.proofs.Ascending.{contains_at}
 use Rattle.bitmap_freelist.specs.Bitmap.{Units, Has}
-use Rattle.row_check.specs.Least.{IsLeast, IsLeastOf, IsOutside, lesser_of}
+use Rattle.row_check.specs.Least.{IsLeastUnit, IsLeastOf, IsOnlyIn, lesser_of}
 use Rattle.row_check.proofs.Collected.{unlike}
 
 -- none of a set is outside the same set
-pub none_of_same : (units others : Units) → units ≡ others → (u : ℕ) → ¬ (IsOutside units others u)
+pub none_of_same : (units others : Units) → units ≡ others → (u : ℕ) → ¬ (IsOnlyIn units others u)
 none_of_same units others same u is = is.1 (subst (λ (s : Units). Has s u) same is.0)
 
 -- what holds of all holds of each that is among them
@@ -57,18 +57,18 @@ module _ (us : List ℕ) (units : Units) (are : set.from_list us ≡ units) wher
   pub none_there : length us ≡ 0 → (u : ℕ) → ¬ (Has units u)
   none_there empty u has = nothing us u empty (listed us units u are has)
 
-  pub none_outside : (others : Units) → AllByRecursion (λ u. set.contains others u ≡ true) us → (u : ℕ) → ¬ (IsOutside units others u)
+  pub none_outside : (others : Units) → AllByRecursion (λ u. set.contains others u ≡ true) us → (u : ℕ) → ¬ (IsOnlyIn units others u)
   none_outside others all u is = is.1 (among (λ v. set.contains others v ≡ true) us u all (listed us units u are is.0))
 
   pub least_at : (others : Units) (at : ℕ) → Ascends us → at < length us → set.contains others (slice_index us at) ≡ false
-      → ((k : ℕ) → k < at → set.contains others (slice_index us k) ≡ true) → IsLeast (IsOutside units others) (slice_index us at)
+      → ((k : ℕ) → k < at → set.contains others (slice_index us k) ≡ true) → IsLeastUnit (IsOnlyIn units others) (slice_index us at)
   least_at others at up within out before = record {
     holds = (has_at us units at are within, λ has. cc);
     least = λ other less outside.
         outside.1 (less_before (λ v. set.contains others v ≡ true) us at other up within before less (listed us units other are outside.0));
   }
 
-  pub least_first : Ascends us → 0 < length us → IsLeast (Has units) (slice_index us 0)
+  pub least_first : Ascends us → 0 < length us → IsLeastUnit (Has units) (slice_index us 0)
   least_first up some = record {
     holds = has_at us units 0 are some;
     least = λ other less has. less_before (λ v. ⊥) us 0 other up some (λ k lt. absurd (omega (arith, lt))) less (listed us units other are has);
@@ -76,17 +76,17 @@ module _ (us : List ℕ) (units : Units) (are : set.from_list us ≡ units) wher
 
 -- ---- the lesser of two
 
-lesser_least : (P Q : ℕ → Type 0) (n m : ℕ) → IsLeast P n → IsLeast Q m → IsLeast (λ u. P u ⊎ Q u) (min n m)
+lesser_least : (P Q : ℕ → Type 0) (n m : ℕ) → IsLeastUnit P n → IsLeastUnit Q m → IsLeastUnit (λ u. P u ⊎ Q u) (min n m)
 lesser_least P Q n m p q = elim (cases_lt n m) [
   | inl lt ↦
       let is : min n m ≡ n = omega (arith, lt) in
-      subst (IsLeast (λ u. P u ⊎ Q u)) (sym is) (record {
+      subst (IsLeastUnit (λ u. P u ⊎ Q u)) (sym is) (record {
         holds = inl p.holds;
         least = λ other less. λ x. elim x [ inl a ↦ p.least other less a | inr b ↦ q.least other (omega (arith, less, lt)) b ];
       })
   | inr ge ↦
       let is : min n m ≡ m = omega (arith, ge) in
-      subst (IsLeast (λ u. P u ⊎ Q u)) (sym is) (record {
+      subst (IsLeastUnit (λ u. P u ⊎ Q u)) (sym is) (record {
         holds = inr q.holds;
         least = λ other less. λ x. elim x [ inl a ↦ p.least other (omega (arith, less, ge)) a | inr b ↦ q.least other less b ];
       })

@@ -11,19 +11,19 @@ use Rattle.unit_fields.specs.declared.width.Width.{Width}
 use Rattle.meta_rows.specs.Prelude.{Rows}
 use Rattle.meta_log.specs.declared.slot.Super.{Super}
 use Rattle.meta_log.specs.Prelude.{width_of}
-use Rattle.row_format.specs.Prelude.{shard_key, Body, private, Extent, own, collection, onode, shard, attribute, omap_header, omap_pair, bitmap}
+use Rattle.row_format.specs.Prelude.{shard_key, Body, private, Extent, ExtentsAscend, own, shard}
 use Rattle.row_format.specs.Row as format
-use Rattle.row_format.proofs.Prelude.{same_row}
+use Rattle.row_format.proofs.Prelude.{same_row, is_shard_or_none}
 use Rattle.store_image.specs.Prelude.{HasRow, HasShard, IsPageAt, IsOnData, IsShardInPlace, IsGoodRow, NoBadRow, Owner, page_of, Owns}
-use Rattle.store_image.proofs.Prelude.{in_place, equal_or_not}
+use Rattle.store_image.proofs.Prelude.{in_place, equal_or_not, shard_placed}
 use Rattle.row_reading.specs.Reading.{SpellsRow}
 use Rattle.onode_codec.specs.Reading.{SpellExtents}
 use Rattle.row_check.specs.Marks.{Marks, no_marks, extents_marked, EndsBy, AllEndBy, RowEndsBy, SpellExtentsBelow}
-use Rattle.row_check.specs.Owned.{AreMarked, AreMarkedOn, SpellsRowWithin, TellsShard}
+use Rattle.row_check.specs.Owned.{MarksOwners, AreMarkedOn, SpellsRowWithin, TellsShard}
 use Rattle.row_reading.proofs.Entries.{AreRows, rising, entry_is}
 use Rattle.row_check.proofs.Walk.{has_spelled}
 use Rattle.row_check.proofs.OneMark.{Tells, HasUnits, tells_same}
-use Rattle.row_check.proofs.RunMarks.{ExtentsOwn, RowOwns, RowAscends, row_tells, row_units, page_below, page_of_shard}
+use Rattle.row_check.proofs.RunMarks.{ExtentsOwn, RowOwns, RowAscends, owns_shard, row_tells, row_units, page_below, page_of_shard}
 
 -- the row stands at this place
 abbrev pub RowAt : Width → List (List ℕ × List ℕ) → ℕ → format.Row → Type 0
@@ -62,38 +62,31 @@ none_marked w es units = record {
 
 -- ---- one row
 
+-- the value of a row that is a shard spells its extents
+pub spelled_shard : (w : Width) (key value : List ℕ) (row : format.Row) → row ≡ format.as_row (format.shard_in row) → SpellsRow w key value row
+    → SpellExtents w value (format.shard_in row).extents
+spelled_shard w key value row is s =
+    let here : SpellsRow w key value (format.as_row (format.shard_in row)) = subst (SpellsRow w key value) is s in
+    record { fit = here.fits.fit; spelled = here.value_is }
+
 -- the pages of a row that is a shard are marked, and another row has none
 pub shard_below : (w : Width) (key value : List ℕ) (units : ℕ) → SpellsRowWithin w key value units → TellsShard w key value true
     → SpellExtentsBelow w value units
-shard_below w key value units within told = by within.row within.spells within.within
-  where
-    by : (row : format.Row) → SpellsRow w key value row → RowEndsBy units row → SpellExtentsBelow w value units
-    by (collection c) s within = absurd ((told (collection c) s).0 refl)
-    by (onode c o size) s within = absurd ((told (onode c o size) s).0 refl)
-    by (shard c o page es) s within = record { extents = es; spelled = record { fit = s.fits.fit; spelled = s.value_is }; below = within }
-    by (attribute c o name v) s within = absurd ((told (attribute c o name v) s).0 refl)
-    by (omap_header c o v) s within = absurd ((told (omap_header c o v) s).0 refl)
-    by (omap_pair c o k v) s within = absurd ((told (omap_pair c o k v) s).0 refl)
-    by (bitmap r bits) s within = absurd ((told (bitmap r bits) s).0 refl)
+shard_below w key value units within told = record {
+  extents = (format.shard_in within.row).extents;
+  spelled = spelled_shard w key value within.row ((told within.row within.spells).0 refl) within.spells;
+  below = within.within;
+}
 
 pub shard_marked : (w : Width) (key value : List ℕ) (old new : Marks) → TellsShard w key value true
     → ((es : List Extent) → SpellExtents w value es → new ≡ extents_marked old es) → AreMarkedOn w key value old new
-shard_marked w key value old new told all (collection c) s = absurd ((told (collection c) s).0 refl)
-shard_marked w key value old new told all (onode c o size) s = absurd ((told (onode c o size) s).0 refl)
-shard_marked w key value old new told all (shard c o page es) s = all es (record { fit = s.fits.fit; spelled = s.value_is })
-shard_marked w key value old new told all (attribute c o name v) s = absurd ((told (attribute c o name v) s).0 refl)
-shard_marked w key value old new told all (omap_header c o v) s = absurd ((told (omap_header c o v) s).0 refl)
-shard_marked w key value old new told all (omap_pair c o k v) s = absurd ((told (omap_pair c o k v) s).0 refl)
-shard_marked w key value old new told all (bitmap r bits) s = absurd ((told (bitmap r bits) s).0 refl)
+shard_marked w key value old new told all row s = all (format.shard_in row).extents (spelled_shard w key value row ((told row s).0 refl) s)
 
 pub no_shard_marked : (w : Width) (key value : List ℕ) (old : Marks) → TellsShard w key value false → AreMarkedOn w key value old old
-no_shard_marked w key value old told (collection c) s = refl
-no_shard_marked w key value old told (onode c o size) s = refl
-no_shard_marked w key value old told (shard c o page es) s = absurd (let is = (told (shard c o page es) s).1 tt in cc)
-no_shard_marked w key value old told (attribute c o name v) s = refl
-no_shard_marked w key value old told (omap_header c o v) s = refl
-no_shard_marked w key value old told (omap_pair c o k v) s = refl
-no_shard_marked w key value old told (bitmap r bits) s = refl
+no_shard_marked w key value old told row s = elim (is_shard_or_none row) [
+  | inl is ↦ absurd (let never = (told row s).1 is in cc)
+  | inr none ↦ sym (ap (λ (x : format.ShardRow). extents_marked old x.extents) none)
+]
 
 pub same_spelled : (w : Width) (key value : List ℕ) (a b : format.Row) → SpellsRow w key value a → SpellsRow w key value b → a ≡ b
 same_spelled w key value a b p q = same_row w a b p.fits q.fits (sym p.key_is ∙ q.key_is) (sym p.value_is ∙ q.value_is)
@@ -107,24 +100,16 @@ all_end s (e ∷ es) all = (body_ends s e.body all.0, all_end s es all.1)
 
 module _ (s : Super) (rows : Rows) (good : NoBadRow s rows) where
   row_ends : (row : format.Row) → HasRow (width_of s) rows row → RowEndsBy s.units row
-  row_ends (collection c) has = tt
-  row_ends (onode c o size) has = tt
-  row_ends (attribute c o name v) has = tt
-  row_ends (omap_header c o v) has = tt
-  row_ends (omap_pair c o k v) has = tt
-  row_ends (bitmap r bits) has = tt
-  row_ends (shard c o page es) has =
-      let place : IsShardInPlace s rows c o page es = in_place s rows (shard c o page es) good has in all_end s es place.on_data
+  row_ends row has = elim (is_shard_or_none row) [
+    | inl is ↦ all_end s (format.shard_in row).extents (shard_placed s rows row is (in_place s rows row good has)).on_data
+    | inr none ↦ subst (λ (x : format.ShardRow). AllEndBy s.units x.extents) (sym none) tt
+  ]
 
-  row_ascends : (row : format.Row) → HasRow (width_of s) rows row → RowAscends row
-  row_ascends (collection c) has = tt
-  row_ascends (onode c o size) has = tt
-  row_ascends (attribute c o name v) has = tt
-  row_ascends (omap_header c o v) has = tt
-  row_ascends (omap_pair c o k v) has = tt
-  row_ascends (bitmap r bits) has = tt
-  row_ascends (shard c o page es) has =
-      let place : IsShardInPlace s rows c o page es = in_place s rows (shard c o page es) good has in place.ascend
+  pub row_ascends : (row : format.Row) → HasRow (width_of s) rows row → RowAscends row
+  row_ascends row has = elim (is_shard_or_none row) [
+    | inl is ↦ (shard_placed s rows row is (in_place s rows row good has)).ascend
+    | inr none ↦ subst (λ (x : format.ShardRow). ExtentsAscend x.extents) (sym none) tt
+  ]
 
   not_before : (c o : List ℕ) (first other : ℕ) (es fs : List Extent) (a : Owner) (v w : ℕ) → HasShard (width_of s) rows c o first es
       → HasShard (width_of s) rows c o other fs → ExtentsOwn c o es a v → ExtentsOwn c o fs a w → first < other → ⊥
@@ -172,19 +157,12 @@ module _ (s : Super) (rows : Rows) (good : NoBadRow s rows) where
   -- the rows that a page stands in have one key
   same_key : (r t : format.Row) (a : Owner) (v w : ℕ) → HasRow (width_of s) rows r → HasRow (width_of s) rows t → RowOwns r a v → RowOwns t a w
       → format.row_key r ≡ format.row_key t
-  same_key (collection c) t a v w p q x y = absurd x
-  same_key (onode c o size) t a v w p q x y = absurd x
-  same_key (attribute c o name value) t a v w p q x y = absurd x
-  same_key (omap_header c o value) t a v w p q x y = absurd x
-  same_key (omap_pair c o k value) t a v w p q x y = absurd x
-  same_key (bitmap r bits) t a v w p q x y = absurd x
-  same_key (shard c o first es) (collection d) a v w p q x y = absurd y
-  same_key (shard c o first es) (onode d u size) a v w p q x y = absurd y
-  same_key (shard c o first es) (attribute d u name value) a v w p q x y = absurd y
-  same_key (shard c o first es) (omap_header d u value) a v w p q x y = absurd y
-  same_key (shard c o first es) (omap_pair d u k value) a v w p q x y = absurd y
-  same_key (shard c o first es) (bitmap r bits) a v w p q x y = absurd y
-  same_key (shard c o first es) (shard d u other fs) a v w p q x y = owned_key c o d u first other es fs a v w p q x y
+  same_key r t a v w p q x y =
+      let r_is = owns_shard r a v x in
+      let t_is = owns_shard t a w y in
+      ap format.row_key r_is
+      ∙ owned_key _ _ _ _ _ _ _ _ a v w (subst (HasRow (width_of s) rows) r_is p) (subst (HasRow (width_of s) rows) t_is q) x y
+      ∙ sym (ap format.row_key t_is)
 
   module _ (es : List (List ℕ × List ℕ)) (are : AreRows rows es) (i : ℕ) (x : List ℕ × List ℕ) (key value : List ℕ) (l : i < length es)
       (is : x ≡ get_or es i x) (k : key ≡ x.0) (v : value ≡ x.1) where
@@ -274,14 +252,10 @@ same_or_not (page_of c o p) (page_of d u q) = elim (equal_or_not c d) [
 
 module _ (w : Width) (rows : Rows) (es : List (List ℕ × List ℕ)) (are : AreRows rows es) (i : ℕ) (end : length es ≤ i) where
   row_owner : (row : format.Row) (a : Owner) (v : ℕ) → HasRow w rows row → RowOwns row a v → Owns w rows a v
-  row_owner (collection c) a v has owns = absurd owns
-  row_owner (onode c o size) a v has owns = absurd owns
-  row_owner (attribute c o name value) a v has owns = absurd owns
-  row_owner (omap_header c o value) a v has owns = absurd owns
-  row_owner (omap_pair c o k value) a v has owns = absurd owns
-  row_owner (bitmap r bits) a v has owns = absurd owns
-  row_owner (shard c o first xs) a v has owns = subst (λ b. Owns w rows b v) (sym owns.owner_is)
-      (owns.csum, record { first = first; extents = xs; has_shard = has; has_page = owns.found })
+  row_owner row a v has owns =
+      let there = subst (HasRow w rows) (owns_shard row a v owns) has in
+      subst (λ b. Owns w rows b v) (sym owns.owner_is)
+      (owns.csum, record { first = (format.shard_in row).page; extents = (format.shard_in row).extents; has_shard = there; has_page = owns.found })
 
   owns_of : (a : Owner) (v : ℕ) → OwnsBefore w es i a v → Owns w rows a v
   owns_of a v b = row_owner b.row a v (has_spelled w rows es are b.at ([], []) b.row b.within (b.stands ([], []))) b.owns
@@ -303,7 +277,7 @@ module _ (w : Width) (rows : Rows) (es : List (List ℕ × List ℕ)) (are : Are
         owns = record { page = page; csum = owns.0; owner_is = refl; found = at.has_page };
       }
 
-  pub all_marked : (units : ℕ) (m : Marks) → MarkedTo w es i units m → AreMarked w rows m
+  pub all_marked : (units : ℕ) (m : Marks) → MarkedTo w es i units m → MarksOwners w rows m
   all_marked units m old = record {
     owned = λ v. (
       λ is. let q = (old.told.owned v).0 is in (q.0, owns_of q.0 v q.1),

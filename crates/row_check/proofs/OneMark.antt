@@ -2,7 +2,7 @@
 use Rattle.std.proofs.Common.{◌≡◌, ◌≢◌, ◌⊎◌, ◌↔◌, inl, inr, ℕ, ◌<◌, Bool, true, false, ◌||◌, length, get_or, set, refl, sym, subst, ◌∙◌, get_or-set_same, get_or-set_other}
 use Rattle.std.proofs.lemmas.Bool.{cases_eq}
 use Rattle.store_image.specs.Prelude.{Owner}
-use Rattle.row_check.specs.Marks.{Marks, one_more}
+use Rattle.row_check.specs.Marks.{Marks, one_page_more}
 
 -- two owners of the unit
 pub record Two (P : Owner → ℕ → Type 0) (unit : ℕ) : Type 0 where
@@ -113,5 +113,5 @@ module _ (P : Owner → ℕ → Type 0) (m : Marks) (x : Owner) (u : ℕ) (old :
         ∙ (old.shared v).1 (record { a = t.a; b = t.b; apart = t.apart; first = before v t.a ne t.first; second = before v t.b ne t.second })
   ]
 
-  pub one_more_tells : Tells Q (one_more m u)
+  pub one_more_tells : Tells Q (one_page_more m u)
   one_more_tells = record { owned = λ v. (owned_to v, owned_from v); shared = λ v. (shared_to v, shared_from v) }

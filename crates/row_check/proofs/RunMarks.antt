@@ -4,8 +4,9 @@ use Rattle.std.specs.Prelude.{nat_le, nat_lt, ◌&&◌, slice_index}
 use Rattle.std.specs.List.{AllByRecursion}
 use Rattle.std.proofs.lemmas.Bool.{cases_Bool, cases_lt, ltb-true, leb-true, lt-ltb, le-leb}
 use Rattle.std.proofs.lemmas.List.{length-set}
-use Rattle.row_format.specs.Prelude.{Body, private, page_count, Extent, page_end, ExtentsAscend, Place, own, place_in, place_of, BeginsAt, collection, onode, shard, attribute, omap_header, omap_pair, bitmap}
+use Rattle.row_format.specs.Prelude.{Body, private, page_count, Extent, page_end, ExtentsAscend, Place, own, place_in, place_of, BeginsAt}
 use Rattle.row_format.specs.Row as format
+use Rattle.row_format.proofs.Prelude.{is_shard_or_none}
 use Rattle.store_image.specs.Prelude.{Owner, page_of}
 use Rattle.row_check.specs.Marks.{Marks, run_marked, body_marked, extents_marked, row_marked, EndsBy, AllEndBy, RowEndsBy}
 use Rattle.row_check.proofs.OneMark.{Tells, HasUnits, tells_same, one_more_tells}
@@ -26,13 +27,7 @@ extents_units units [] m has = has
 extents_units units (e ∷ es) m has = extents_units units es (body_marked m e.body) (body_units units m e.body has)
 
 pub row_units : (units : ℕ) (row : format.Row) (m : Marks) → HasUnits units m → HasUnits units (row_marked m row)
-row_units units (collection c) m has = has
-row_units units (onode c o size) m has = has
-row_units units (attribute c o name v) m has = has
-row_units units (omap_header c o v) m has = has
-row_units units (omap_pair c o k v) m has = has
-row_units units (bitmap r bits) m has = has
-row_units units (shard c o page es) m has = extents_units units es m has
+row_units units row = extents_units units (format.shard_in row).extents
 
 -- ---- consecutive pages
 
@@ -261,22 +256,18 @@ module _ (c o : List ℕ) where
 
 -- a page of the row owns the unit
 abbrev pub RowOwns : format.Row → Owner → ℕ → Type 0
-RowOwns (shard c o page es) a v = ExtentsOwn c o es a v
-RowOwns row a v = ⊥
+RowOwns row = ExtentsOwn (format.shard_in row).coll (format.shard_in row).object (format.shard_in row).extents
+
+-- then the row is a shard
+pub owns_shard : (row : format.Row) (a : Owner) (v : ℕ) → RowOwns row a v → row ≡ format.as_row (format.shard_in row)
+owns_shard row a v owns = elim (is_shard_or_none row) [
+  | inl is ↦ is
+  | inr none ↦ absurd (let found = sym (ap (λ (x : format.ShardRow). place_of x.extents owns.page) none) ∙ owns.found in cc)
+]
 
 abbrev pub RowAscends : format.Row → Type 0
-RowAscends (shard c o page es) = ExtentsAscend es
-RowAscends row = Unit {0}
-
-nothing_more : (P : Owner → ℕ → Type 0) (a : Owner) (v : ℕ) → P a v ↔ (P a v ⊎ ⊥)
-nothing_more P a v = (inl, λ q. elim q [ inl p ↦ p | inr n ↦ absurd n ])
+RowAscends row = ExtentsAscend (format.shard_in row).extents
 
 pub row_tells : (row : format.Row) (P : Owner → ℕ → Type 0) (m : Marks) (units : ℕ) → Tells P m → HasUnits units m → RowEndsBy units row
     → RowAscends row → ((a : Owner) (v w : ℕ) → RowOwns row a v → P a w → ⊥) → Tells (λ a v. P a v ⊎ RowOwns row a v) (row_marked m row)
-row_tells (collection c) P m units old has ends ascend apart = tells_same P _ m (nothing_more P) old
-row_tells (onode c o size) P m units old has ends ascend apart = tells_same P _ m (nothing_more P) old
-row_tells (shard c o page es) P m units old has ends ascend apart = extents_tells c o es P m units old has ends ascend apart
-row_tells (attribute c o name v) P m units old has ends ascend apart = tells_same P _ m (nothing_more P) old
-row_tells (omap_header c o v) P m units old has ends ascend apart = tells_same P _ m (nothing_more P) old
-row_tells (omap_pair c o k v) P m units old has ends ascend apart = tells_same P _ m (nothing_more P) old
-row_tells (bitmap r bits) P m units old has ends ascend apart = tells_same P _ m (nothing_more P) old
+row_tells row = extents_tells (format.shard_in row).coll (format.shard_in row).object (format.shard_in row).extents

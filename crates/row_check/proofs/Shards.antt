@@ -13,7 +13,7 @@ use Rattle.row_format.proofs.Prelude.{same_head, coll_no_object, bitmap_no_objec
 use Rattle.store_image.specs.Prelude.{HasShard, IsInPlace, IsShardInPlace, IsGoodRow}
 use Rattle.row_reading.specs.declared.row.Row.{Row}
 use Rattle.row_reading.specs.declared.row.Row.TheVariants as read
-use Rattle.row_reading.specs.Reading.{row_of, SpellsRow}
+use Rattle.row_reading.specs.Reading.{format_row, SpellsRow}
 use Rattle.row_check.specs.declared.passed.Passed.{Passed}
 use Rattle.row_check.specs.Bad.{IsFirst, IsLast, EndAt, ShardsEndAt, Knows, IsBelow, IsAtRow, IsShardOf, EndsBefore, ShardStands}
 use Rattle.row_reading.proofs.KeyOrder.{has_front, onode_front, shard_front, page_bytes, lesser_page, lesser_shard, onode_before}
@@ -26,7 +26,7 @@ module _ (s : Super) (rows : Rows) (c o : List ℕ) (page : ℕ) (coll : IsCollN
 
   abbrev IsLastHere : Option Row → Type 0
   IsLastHere last = MatchOption last (IsFirst (width_of s) rows (IsBelow (shard_key c o page)))
-      (λ row. (value : List ℕ) × IsLast (width_of s) rows (IsBelow (shard_key c o page)) (row_of row value))
+      (λ row. (value : List ℕ) × IsLast (width_of s) rows (IsBelow (shard_key c o page)) (format_row row value))
 
   module _ (earlier : ℕ) (es : List Extent) (has : HasShard (width_of s) rows c o earlier es) (less : byte_order (shard_key c o earlier) (shard_key c o page) ≡ Less) where
     -- the last row has the object's front
@@ -120,11 +120,11 @@ module _ (s : Super) (rows : Rows) (c o : List ℕ) (page : ℕ) (coll : IsCollN
 pub shard_answer : {E : Type 0} (s : Super) (rows : Rows) (p : Passed) (row : Row) (c o : List ℕ) (page : ℕ) (es fs : List Extent) (r : Result Bool E)
     → row ≡ read.Shard c o page es → fs ≡ es → IsAtRow s rows p row → EndsBefore p c o page
     → IfOk r (λ stands. IsTrue stands ↔ ShardStands s rows c o fs)
-    → IfOk r (λ place. (value : List ℕ) → IsTrue place ↔ IsInPlace s rows (row_of row value))
+    → IfOk r (λ place. (value : List ℕ) → IsTrue place ↔ IsInPlace s rows (format_row row value))
 shard_answer s rows p row c o page es fs (Err e) is same = λ to ends h. tt
 shard_answer s rows p row c o page es fs (Ok b) is same =
     subst (λ (x : Row). IsAtRow s rows p x → EndsBefore p c o page
-    → (IsTrue b ↔ ShardStands s rows c o fs) → (value : List ℕ) → IsTrue b ↔ IsInPlace s rows (row_of x value)) (sym is)
+    → (IsTrue b ↔ ShardStands s rows c o fs) → (value : List ℕ) → IsTrue b ↔ IsInPlace s rows (format_row x value)) (sym is)
     (λ to ends h value.
     let by = placed s rows c o page to.fits.coll_name to.fits.object_name to.fits.page_below p to.knows es ends in
     let own = subst (λ l. IsTrue b ↔ ShardStands s rows c o l) same h in
@@ -133,10 +133,10 @@ shard_answer s rows p row c o page es fs (Ok b) is same =
 -- at a shard into which an earlier one reaches
 pub shard_refused : (s : Super) (rows : Rows) (p : Passed) (row : Row) (c o : List ℕ) (page : ℕ) (es : List Extent)
     → row ≡ read.Shard c o page es → IsAtRow s rows p row
-    → ¬ (EndsBefore p c o page) → (value : List ℕ) → ¬ (IsInPlace s rows (row_of row value))
+    → ¬ (EndsBefore p c o page) → (value : List ℕ) → ¬ (IsInPlace s rows (format_row row value))
 shard_refused s rows p row c o page es is =
     subst (λ (x : Row). IsAtRow s rows p x
-    → ¬ (EndsBefore p c o page) → (value : List ℕ) → ¬ (IsInPlace s rows (row_of x value))) (sym is)
+    → ¬ (EndsBefore p c o page) → (value : List ℕ) → ¬ (IsInPlace s rows (format_row x value))) (sym is)
     (λ to apart value. unplaced s rows c o page to.fits.coll_name to.fits.object_name to.fits.page_below p to.knows es apart)
 
 -- a row that isn't in its place isn't good

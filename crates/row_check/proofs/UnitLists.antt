@@ -16,7 +16,7 @@ use Rattle.bitmap_freelist.specs.Bitmap.{Units, Has}
 use Rattle.ordered_lists.specs.Lists.{IsIn, Ascend, ListsAll}
 use Rattle.ordered_lists.proofs.Joining.{all_as, lists_none, lists_as}
 use Rattle.row_check.specs.Owned.{AreOwned, AreShared}
-use Rattle.row_check.specs.Least.{IsOutside}
+use Rattle.row_check.specs.Least.{IsOnlyIn}
 use Rattle.row_check.proofs.Collected.{unlike}
 
 alike : (u : ℕ) → eq_by_cmp nat_cmp u u ≡ true
@@ -99,7 +99,7 @@ not_true false is = refl
 
 -- the units of a set that are in none of the others
 pub outside_lists : (us : List ℕ) (units others : Units) → set.from_list us ≡ units → Ascends us
-    → ListsAll (λ a b. a < b) (IsOutside units others) (filter (λ u. not (set.contains others u)) us)
+    → ListsAll (λ a b. a < b) (IsOnlyIn units others) (filter (λ u. not (set.contains others u)) us)
 outside_lists us units others are up =
     let p : ℕ → Bool = λ u. not (set.contains others u) in
     record {
@@ -110,15 +110,15 @@ outside_lists us units others are up =
       all = λ u is. keeps p us u ((in_set us units u are).0 is.0) (outside_test u is.1);
     }
   where
-    two_all : (xs : List ℕ) → AllByRecursion (Has units) xs → AllByRecursion (λ u. not (set.contains others u) ≡ true) xs → AllByRecursion (IsOutside units others) xs
+    two_all : (xs : List ℕ) → AllByRecursion (Has units) xs → AllByRecursion (λ u. not (set.contains others u) ≡ true) xs → AllByRecursion (IsOnlyIn units others) xs
     two_all [] a b = tt
     two_all (x ∷ xs) a b = ((a.0, λ has. let out = not_true (set.contains others x) b.0 in absurd cc), two_all xs a.1 b.1)
 
     outside_test : (u : ℕ) → ¬ Has others u → not (set.contains others u) ≡ true
     outside_test u out = elim (cases_Bool (set.contains others u)) [ inl is ↦ absurd (out is) | inr other ↦ ap not other ]
 
-pub same_lists_none : (units others : Units) → units ≡ others → ListsAll (λ a b. a < b) (IsOutside units others) []
-same_lists_none units others same = lists_none (λ (a : ℕ) (b : ℕ). a < b) (IsOutside units others) (λ u is. is.1 (subst (λ (x : Units). Has x u) same is.0))
+pub same_lists_none : (units others : Units) → units ≡ others → ListsAll (λ a b. a < b) (IsOnlyIn units others) []
+same_lists_none units others same = lists_none (λ (a : ℕ) (b : ℕ). a < b) (IsOnlyIn units others) (λ u is. is.1 (subst (λ (x : Units). Has x u) same is.0))
 
 -- all units of a set
 pub set_lists : (us : List ℕ) (units : Units) → set.from_list us ≡ units → Ascends us → ListsAll (λ a b. a < b) (Has units) us
@@ -132,15 +132,15 @@ set_lists us units are up = record {
 
 module _ (w : Width) (rows : Rows) (owned shared marked : Units) (are_owned : AreOwned w rows owned) (are_shared : AreShared w rows shared)
     (are_marked : freelist.AreMarked rows marked) (below : (unit : ℕ) → IsOwned w rows unit → unit < 2 ^ 32) where
-  pub leaked_lists : (us : List ℕ) → ListsAll (λ a b. a < b) (IsOutside marked owned) us → ListsAll (λ a b. a < b) (IsLeaked w rows) us
-  leaked_lists us lists = lists_as (λ (a : ℕ) (b : ℕ). a < b) (IsOutside marked owned) (IsLeaked w rows) us (λ unit. (
+  pub leaked_lists : (us : List ℕ) → ListsAll (λ a b. a < b) (IsOnlyIn marked owned) us → ListsAll (λ a b. a < b) (IsLeaked w rows) us
+  leaked_lists us lists = lists_as (λ (a : ℕ) (b : ℕ). a < b) (IsOnlyIn marked owned) (IsLeaked w rows) us (λ unit. (
     λ out. let is = (are_marked unit).0 out.0 in record { is_unit = is.0; marked = is.1; unowned = λ own. out.1 ((are_owned unit).1 own) },
     λ leak. ((are_marked unit).1 (leak.is_unit, leak.marked), λ has. leak.unowned ((are_owned unit).0 has)),
   )) lists
 
-  pub unmarked_lists : (us : List ℕ) → ListsAll (λ a b. a < b) (IsOutside owned marked) us
+  pub unmarked_lists : (us : List ℕ) → ListsAll (λ a b. a < b) (IsOnlyIn owned marked) us
       → ListsAll (λ a b. a < b) (λ unit. IsOwned w rows unit × ¬ IsMarked rows unit) us
-  unmarked_lists us lists = lists_as (λ (a : ℕ) (b : ℕ). a < b) (IsOutside owned marked) (λ unit. IsOwned w rows unit × ¬ IsMarked rows unit) us (λ unit. (
+  unmarked_lists us lists = lists_as (λ (a : ℕ) (b : ℕ). a < b) (IsOnlyIn owned marked) (λ unit. IsOwned w rows unit × ¬ IsMarked rows unit) us (λ unit. (
     λ out. let own = (are_owned unit).0 out.0 in (own, λ mark. out.1 ((are_marked unit).1 (below unit own, mark))),
     λ un. ((are_owned unit).1 un.0, λ has. un.1 ((are_marked unit).0 has).1),
   )) lists
@@ -148,7 +148,7 @@ module _ (w : Width) (rows : Rows) (owned shared marked : Units) (are_owned : Ar
   pub doubled_lists : (us : List ℕ) → ListsAll (λ a b. a < b) (Has shared) us → ListsAll (λ a b. a < b) (λ unit. ¬ HasSoleOwner w rows unit) us
   doubled_lists us lists = lists_as (λ (a : ℕ) (b : ℕ). a < b) (Has shared) (λ unit. ¬ HasSoleOwner w rows unit) us (λ unit. are_shared unit) lists
 
-  pub others_owned : (us : List ℕ) → ListsAll (λ a b. a < b) (IsOutside marked owned) us → (unit : ℕ) → unit < 2 ^ 32 → IsMarked rows unit → IsIn unit us ⊎ IsOwned w rows unit
+  pub others_owned : (us : List ℕ) → ListsAll (λ a b. a < b) (IsOnlyIn marked owned) us → (unit : ℕ) → unit < 2 ^ 32 → IsMarked rows unit → IsIn unit us ⊎ IsOwned w rows unit
   others_owned us lists unit small mark = elim (cases_Bool (set.contains owned unit)) [
     | inl has ↦ inr ((are_owned unit).0 has)
     | inr out ↦ inl (lists.all unit ((are_marked unit).1 (small, mark), λ has. absurd cc))

@@ -23,9 +23,9 @@ use Rattle.ordered_lists.proofs.Joining.{lists_none, lists_one, lists_as, lists_
 use Rattle.row_reading.proofs.Entries.{rising, StandsAt, entry_is, AreRows}
 use Rattle.row_reading.specs.declared.row.Row.{Row}
 use Rattle.row_reading.specs.declared.row.Row.TheVariants as read
-use Rattle.row_reading.specs.Reading.{row_of, SpellsRow, IsNoRow}
+use Rattle.row_reading.specs.Reading.{format_row, SpellsRow, IsNoRow}
 use Rattle.row_check.specs.declared.passed.Passed.{Passed}
-use Rattle.row_check.specs.Bad.{IsLeastBad, IsJudged, IsFirst, IsLast, ShardsEndAt, Knows, IsBelow, IsUpTo, EndsWith}
+use Rattle.row_check.specs.Bad.{IsLeastBad, IsRowJudged, IsFirst, IsLast, ShardsEndAt, Knows, IsBelow, IsUpTo, EndsWith}
 use Rattle.row_check.proofs.Shards.{earlier_ends, all_end, no_good}
 
 -- ---- keys in order
@@ -56,8 +56,8 @@ has_spelled w rows es are j d r l spells =
 -- ---- what is known goes with the keys of rows
 
 module _ (s : Super) (rows : Rows) (B C : List ℕ → Type 0) (same : (r : format.Row) → HasRow (width_of s) rows r → B (format.row_key r) ↔ C (format.row_key r)) where
-  last_as : (last : Option Row) → MatchOption last (IsFirst (width_of s) rows B) (λ row. (value : List ℕ) × IsLast (width_of s) rows B (row_of row value))
-      → MatchOption last (IsFirst (width_of s) rows C) (λ row. (value : List ℕ) × IsLast (width_of s) rows C (row_of row value))
+  last_as : (last : Option Row) → MatchOption last (IsFirst (width_of s) rows B) (λ row. (value : List ℕ) × IsLast (width_of s) rows B (format_row row value))
+      → MatchOption last (IsFirst (width_of s) rows C) (λ row. (value : List ℕ) × IsLast (width_of s) rows C (format_row row value))
   last_as None first = λ r has is. first r has ((same r has).1 is)
   last_as (Some row) is = (
     is.0,
@@ -100,28 +100,28 @@ module _ (s : Super) (rows : Rows) (key value : List ℕ) (stands : map.get rows
     λ up. elim (below_or_same (format.row_key r) key up) [ inl less ↦ less | inr is ↦ absurd (none r (spelled_here r has is)) ],
   )) p
 
-  module _ (row : Row) (spells : SpellsRow (width_of s) key value (row_of row value)) where
-    has_row : HasRow (width_of s) rows (row_of row value)
+  module _ (row : Row) (spells : SpellsRow (width_of s) key value (format_row row value)) where
+    has_row : HasRow (width_of s) rows (format_row row value)
     has_row = record { fits = spells.fits; stands = ap (λ k. map.get rows k) (sym spells.key_is) ∙ stands ∙ ap Some spells.value_is }
 
-    last_here : IsLast (width_of s) rows (IsUpTo key) (row_of row value)
+    last_here : IsLast (width_of s) rows (IsUpTo key) (format_row row value)
     last_here = record {
       has = has_row;
       before = subst (λ k. byte_order key k ≢ Less) spells.key_is (itself_up_to key);
       last = λ other has up. subst (λ k. byte_order k (format.row_key other) ≢ Less) spells.key_is up;
     }
 
-    same_here : (r : format.Row) → HasRow (width_of s) rows r → key ≡ format.row_key r → row_of row value ≡ r
+    same_here : (r : format.Row) → HasRow (width_of s) rows r → key ≡ format.row_key r → format_row row value ≡ r
     same_here r has is =
         let also = spelled_here r has is in
-        same_row (width_of s) (row_of row value) r spells.fits has.fits (sym spells.key_is ∙ is) (sym spells.value_is ∙ also.value_is)
+        same_row (width_of s) (format_row row value) r spells.fits has.fits (sym spells.key_is ∙ is) (sym spells.value_is ∙ also.value_is)
 
   -- pages of a shard
   abbrev EndsBy : ℕ → format.Row → Type 0
   EndsBy n (format.shard c o first es) = AllByRecursion (λ e. page_end e ≤ n) es
   EndsBy n _ = Unit {0}
 
-  shards_end : (row : Row) (p : Passed) (end : ℕ) → SpellsRow (width_of s) key value (row_of row value) → Knows s rows (IsBelow key) p → EndsWith p row end
+  shards_end : (row : Row) (p : Passed) (end : ℕ) → SpellsRow (width_of s) key value (format_row row value) → Knows s rows (IsBelow key) p → EndsWith p row end
       → ShardsEndAt (width_of s) rows (IsUpTo key) (Some row) end
   shards_end (read.Collection d) p end spells knows with_row = tt
   shards_end (read.Onode d u size) p end spells knows with_row = tt
@@ -147,18 +147,18 @@ module _ (s : Super) (rows : Rows) (key value : List ℕ) (stands : map.get rows
         ),
       )
 
-  pub passed_row : (row : Row) (p q : Passed) (fits : Bool) → SpellsRow (width_of s) key value (row_of row value) → Knows s rows (IsBelow key) p
-      → ((v : List ℕ) → IsTrue fits ↔ IsInPlace s rows (row_of row v)) → q.last ≡ Some row → q.in_place ≡ fits → EndsWith p row q.end → Knows s rows (IsUpTo key) q
+  pub passed_row : (row : Row) (p q : Passed) (fits : Bool) → SpellsRow (width_of s) key value (format_row row value) → Knows s rows (IsBelow key) p
+      → ((v : List ℕ) → IsTrue fits ↔ IsInPlace s rows (format_row row v)) → q.last ≡ Some row → q.in_place ≡ fits → EndsWith p row q.end → Knows s rows (IsUpTo key) q
   passed_row row p q fits spells knows decided last placed end = record {
-    last_is = subst (λ (l : Option Row). MatchOption l (IsFirst (width_of s) rows (IsUpTo key)) (λ row. (value : List ℕ) × IsLast (width_of s) rows (IsUpTo key) (row_of row value)))
+    last_is = subst (λ (l : Option Row). MatchOption l (IsFirst (width_of s) rows (IsUpTo key)) (λ row. (value : List ℕ) × IsLast (width_of s) rows (IsUpTo key) (format_row row value)))
         (sym last) (value, last_here row spells);
-    placed = λ is. subst (λ (l : Option Row). IfSome l (λ row. (value : List ℕ) → IsInPlace s rows (row_of row value))) (sym last) (λ v. (decided v).0 (sym placed ∙ is));
+    placed = λ is. subst (λ (l : Option Row). IfSome l (λ row. (value : List ℕ) → IsInPlace s rows (format_row row value))) (sym last) (λ v. (decided v).0 (sym placed ∙ is));
     end_is = subst (λ (l : Option Row). ShardsEndAt (width_of s) rows (IsUpTo key) l q.end) (sym last) (shards_end row p q.end spells knows end);
   }
 
 -- whether the row is good, by its place
 pub judged_by : (s : Super) (rows : Rows) (key value : List ℕ) (r : format.Row) (fits : Bool) → SpellsRow (width_of s) key value r → (IsTrue fits ↔ IsInPlace s rows r)
-    → IsJudged s rows key value fits
+    → IsRowJudged s rows key value fits
 judged_by s rows key value r fits spells decided = (
   λ yes. record { row = r; fits = spells.fits; key_is = spells.key_is; value_is = spells.value_is; in_place = decided.0 yes },
   λ good. by fits decided good,

@@ -13,7 +13,7 @@ use Rattle.row_format.specs.Row as format
 use Rattle.store_image.specs.Prelude.{HasKey, HasRow, HasOnode, HasShard, pages_of, IsOnData, IsInPlace, IsGoodRow, IsBadRow}
 use Rattle.row_reading.specs.declared.row.Row.{Row}
 use Rattle.row_reading.specs.declared.row.Row.TheVariants as read
-use Rattle.row_reading.specs.Reading.{row_of}
+use Rattle.row_reading.specs.Reading.{format_row}
 use Rattle.ordered_lists.specs.Lists.{ListsAll}
 use Rattle.row_check.specs.declared.passed.Passed.{Passed}
 
@@ -27,8 +27,8 @@ pub record IsLeastBad (s : Super) (rows : Rows) (key : List ℕ) : Type 0 where
   pub before : AreGoodBefore s rows key
 
 -- the row under this key and with this value is bad, or good
-abbrev pub IsJudged : Super → Rows → List ℕ → List ℕ → Bool → Type 0
-IsJudged s rows key value good = IsTrue good ↔ IsGoodRow s rows key value
+abbrev pub IsRowJudged : Super → Rows → List ℕ → List ℕ → Bool → Type 0
+IsRowJudged s rows key value good = IsTrue good ↔ IsGoodRow s rows key value
 
 -- the keys of bad rows, in their order
 abbrev pub AreBadKeys : Super → Rows → List (List ℕ) → Type 0
@@ -58,8 +58,8 @@ ShardsEndAt w rows Before _ end = Unit {0}
 
 -- what is known of the rows with these keys
 pub record Knows (s : Super) (rows : Rows) (Before : List ℕ → Type 0) (p : Passed) : Type 0 where
-  pub last_is : MatchOption p.last (IsFirst (width_of s) rows Before) (λ row. (value : List ℕ) × IsLast (width_of s) rows Before (row_of row value))
-  pub placed : p.in_place ≡ true → IfSome p.last (λ row. (value : List ℕ) → IsInPlace s rows (row_of row value))
+  pub last_is : MatchOption p.last (IsFirst (width_of s) rows Before) (λ row. (value : List ℕ) × IsLast (width_of s) rows Before (format_row row value))
+  pub placed : p.in_place ≡ true → IfSome p.last (λ row. (value : List ℕ) → IsInPlace s rows (format_row row value))
   pub end_is : ShardsEndAt (width_of s) rows Before p.last p.end
 
 -- the rows whose keys are below this one were passed, or this one and those
@@ -72,8 +72,8 @@ IsUpTo key k = byte_order key k ≢ Less
 -- this row was read from some value, and the rows whose keys are below its own were passed
 pub record IsAtRow (s : Super) (rows : Rows) (p : Passed) (row : Row) : Type 0 where
   pub value : List ℕ
-  pub fits : format.FitsRow (width_of s) (row_of row value)
-  pub knows : Knows s rows (IsBelow (format.row_key (row_of row value))) p
+  pub fits : format.FitsRow (width_of s) (format_row row value)
+  pub knows : Knows s rows (IsBelow (format.row_key (format_row row value))) p
 
 -- this row is a shard of the object
 abbrev pub IsShardOf : Option Row → List ℕ → List ℕ → Type 0

@@ -3,21 +3,21 @@ use Rattle.std.specs.Prelude.{◌⊎◌, ℕ, ◌<◌, min, Option, Some, None, 
 use Rattle.bitmap_freelist.specs.Bitmap.{Units, Has}
 
 -- it holds of this unit, and of none that is less
-pub record IsLeast (P : ℕ → Type 0) (unit : ℕ) : Type 0 where
+pub record IsLeastUnit (P : ℕ → Type 0) (unit : ℕ) : Type 0 where
   pub holds : P unit
   pub least : (other : ℕ) → other < unit → ¬ P other
 
 -- the least unit of which it holds, if it holds of one
 abbrev pub IsLeastOf : (ℕ → Type 0) → Option ℕ → Type 0
-IsLeastOf P found = MatchOption found ((unit : ℕ) → ¬ P unit) (IsLeast P)
+IsLeastOf P found = MatchOption found ((unit : ℕ) → ¬ P unit) (IsLeastUnit P)
 
 -- the unit is one of the first set, and none of the second
-abbrev pub IsOutside : Units → Units → ℕ → Type 0
-IsOutside units others unit = Has units unit × ¬ Has others unit
+abbrev pub IsOnlyIn : Units → Units → ℕ → Type 0
+IsOnlyIn units others unit = Has units unit × ¬ Has others unit
 
 -- The unit is one of these that have an owner, and none of these that are marked; or one of these that have two owners.
 abbrev pub IsWrong : Units → Units → Units → ℕ → Type 0
-IsWrong owned shared marked unit = IsOutside owned marked unit ⊎ Has shared unit
+IsWrong owned shared marked unit = IsOnlyIn owned marked unit ⊎ Has shared unit
 
 -- the lesser of two, where there are two
 abbrev pub lesser_of : Option ℕ → Option ℕ → Option ℕ

@@ -21,8 +21,8 @@ abbrev pub no_marks : ℕ → Marks
 no_marks units = record { owned = replicate units false; shared = replicate units false }
 
 -- one page more stands on the unit
-abbrev pub one_more : Marks → ℕ → Marks
-one_more m unit = record {
+abbrev pub one_page_more : Marks → ℕ → Marks
+one_page_more m unit = record {
   owned = slice_set m.owned unit true;
   shared = slice_set m.shared unit (slice_index_or m.owned unit false || slice_index_or m.shared unit false);
 }
@@ -30,7 +30,7 @@ one_more m unit = record {
 -- so many pages more stand on consecutive units
 abbrev pub run_marked : Marks → ℕ → ℕ → Marks
 run_marked m unit zero = m
-run_marked m unit (suc n) = one_more (run_marked m unit n) (unit + n)
+run_marked m unit (suc n) = one_page_more (run_marked m unit n) (unit + n)
 
 abbrev pub body_marked : Marks → Body → Marks
 body_marked m (private unit csums) = run_marked m unit (length csums)
@@ -42,8 +42,7 @@ extents_marked m (e ∷ es) = extents_marked (body_marked m e.body) es
 
 -- the same of a row's pages, if it is a shard
 abbrev pub row_marked : Marks → format.Row → Marks
-row_marked m (format.shard c o page es) = extents_marked m es
-row_marked m row = m
+row_marked m row = extents_marked m (format.shard_in row).extents
 
 -- the units of these pages are below this one
 abbrev pub EndsBy : ℕ → Body → Type 0
@@ -53,8 +52,7 @@ abbrev pub AllEndBy : ℕ → List Extent → Type 0
 AllEndBy units es = AllByRecursion (λ e. EndsBy units e.body) es
 
 abbrev pub RowEndsBy : ℕ → format.Row → Type 0
-RowEndsBy units (format.shard c o page es) = AllEndBy units es
-RowEndsBy units row = Unit {0}
+RowEndsBy units row = AllEndBy units (format.shard_in row).extents
 
 -- the bytes spell extents, the units of whose pages are below this one
 pub record SpellExtentsBelow (w : Width) (bytes : List ℕ) (units : ℕ) : Type 0 where

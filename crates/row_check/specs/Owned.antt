@@ -18,7 +18,7 @@ abbrev pub AreShared : Width → Rows → set.FinSet nat_cmp → Type 0
 AreShared w rows units = (unit : ℕ) → IsTrue (set.contains units unit) ↔ ((HasSoleOwner w rows unit) → ⊥)
 
 -- the first marks are at the units that have an owner, and the second ones at those that have two or more
-pub record AreMarked (w : Width) (rows : Rows) (m : Marks) : Type 0 where
+pub record MarksOwners (w : Width) (rows : Rows) (m : Marks) : Type 0 where
   pub owned : (unit : ℕ) → (slice_index_or m.owned unit false ≡ true) ↔ IsOwned w rows unit
   pub shared : (unit : ℕ) → (slice_index_or m.shared unit false ≡ true) ↔ ((HasSoleOwner w rows unit) → ⊥)
 
@@ -33,8 +33,7 @@ pub record SpellsRowWithin (w : Width) (key value : List ℕ) (units : ℕ) : Ty
   pub within : RowEndsBy units row
 
 abbrev pub IsShard : format.Row → Type 0
-IsShard (format.shard c o page es) = Unit {0}
-IsShard row = ⊥
+IsShard row = row ≡ format.as_row (format.shard_in row)
 
 -- whether the row that a key and a value spell is a shard
 abbrev pub TellsShard : Width → List ℕ → List ℕ → Bool → Type 0

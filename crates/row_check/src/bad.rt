@@ -8,7 +8,7 @@
 ghost use Rattle.std.specs.Prelude.{◌≡◌, Some, IfOk, OnOk, MatchOption, map};
 ghost use Rattle.std.specs.FinMap as rows_of_map;
 ghost use Rattle.store_image.specs.Prelude.{NoBadRow};
-ghost use Rattle.row_check.specs.Bad.{IsLeastBad, IsJudged, AreBadKeys, Knows, IsBelow, IsUpTo};
+ghost use Rattle.row_check.specs.Bad.{IsLeastBad, IsRowJudged, AreBadKeys, Knows, IsBelow, IsUpTo};
 
 use crate::in_place::{is_in_place, object_of};
 use crate::passed::Passed;
@@ -38,7 +38,7 @@ fn judge_row(
 ) -> Result<bool, AllocError>
     requires knows { Knows sup.now rows.now.rows (IsBelow key.now) passed.old }
     requires stands { rows_of_map.get rows.now.rows key.now ≡ Some value.now }
-    ensures judged { IfOk result (IsJudged sup.now rows.now.rows key.now value.now) }
+    ensures judged { IfOk result (IsRowJudged sup.now rows.now.rows key.now value.now) }
     ensures knows { OnOk result (Knows sup.now rows.now.rows (IsUpTo key.now) passed.new) }
 {
     let Some(row) = read_row_after(alloc, sup.width(), coll_of(&passed.last), key, value)? else {

@@ -6,7 +6,7 @@ ghost use Rattle.meta_log.specs.Prelude.{width_of, IsSuper};
 ghost use Rattle.store_image.specs.Prelude.{NoBadRow, IsExactAs, IsLeastInexact, IsOwned, IsMarked, IsLeaked, HasSoleOwner};
 ghost use Rattle.ordered_lists.specs.Lists.{IsIn, ListsAll};
 ghost use Rattle.bitmap_freelist.specs.Bitmap.{Has, AreMarked};
-ghost use Rattle.row_check.specs.Least.{IsLeastOf, IsOutside, IsWrong, lesser_of};
+ghost use Rattle.row_check.specs.Least.{IsLeastOf, IsOnlyIn, IsWrong, lesser_of};
 
 use crate::owners::{OwnedUnits, owned_units};
 use meta_log::Super;
@@ -32,7 +32,7 @@ fn are_same(units: &UnitSet, others: &UnitSet) -> bool
 
 // The least of the units that is none of the others. None is looked up where both sets are the same, as where nothing leaked.
 fn least_outside(units: &UnitSet, others: &UnitSet) -> Option<u32>
-    ensures { IsLeastOf (IsOutside units.now others.now) result }
+    ensures { IsLeastOf (IsOnlyIn units.now others.now) result }
 {
     if are_same(units, others) {
         return None;
@@ -103,7 +103,7 @@ fn copy_of(alloc: Global, units: &[u32]) -> Result<Vec<u32>, AllocError>
 
 // The units that are none of the others. None is looked up where both sets are the same.
 fn units_outside(alloc: Global, units: &UnitSet, others: &UnitSet) -> Result<Vec<u32>, AllocError>
-    ensures { IfOk result (λ outside. ListsAll (λ a b. a < b) (IsOutside units.now others.now) outside.items) }
+    ensures { IfOk result (λ outside. ListsAll (λ a b. a < b) (IsOnlyIn units.now others.now) outside.items) }
 {
     if are_same(units, others) {
         return Ok(Vec::new(alloc));

@@ -5,7 +5,7 @@ ghost use Rattle.unit_fields.specs.Prelude.{IsName, IsCollName};
 ghost use Rattle.row_format.specs.Prelude.{coll_key, onode_key, page_end, ExtentsAscend};
 ghost use Rattle.store_image.specs.Prelude.{HasKey, HasOnode, pages_of, IsOnData, HasObject, AreOfData, IsInPlace, IsDataUnit};
 ghost use Rattle.onode_codec.specs.Reading.{SpellsOnode};
-ghost use Rattle.row_reading.specs.Reading.{row_of};
+ghost use Rattle.row_reading.specs.Reading.{format_row};
 ghost use Rattle.row_check.specs.Bad.{IsOfObject, IsOfNoObject, IsPlacedOf, IsPlacedIn, IsOnodeOf, IsWithinOnode, ShardStands, IsAtRow};
 ghost use Rattle.row_check.specs.DataBits.{bit_at_place, IsBitOfData};
 
@@ -308,7 +308,7 @@ pub fn is_in_place(
     row: &Row,
 ) -> Result<bool, AllocError>
     requires { IsAtRow sup.now rows.now.rows passed.now row.now }
-    ensures { IfOk result (λ placed. (value : List ℕ) → IsTrue placed ↔ IsInPlace sup.now rows.now.rows (row_of row.now value)) }
+    ensures { IfOk result (λ placed. (value : List ℕ) → IsTrue placed ↔ IsInPlace sup.now rows.now.rows (format_row row.now value)) }
 {
     match row {
         Row::Collection { coll: _coll } => Ok(true),

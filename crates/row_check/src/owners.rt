@@ -3,7 +3,7 @@ ghost use Rattle.std.specs.Prelude.{ℕ, ◌≡◌, ◌<◌, ◌^◌, IfOk, fals
 ghost use Rattle.std.specs.FinSet as set;
 ghost use Rattle.meta_log.specs.Prelude.{width_of, IsSuper};
 ghost use Rattle.store_image.specs.Prelude.{NoBadRow, IsOwned};
-ghost use Rattle.row_check.specs.Owned.{AreOwned, AreShared, AreMarked, AreMarkedOn, SpellsRowWithin, TellsShard};
+ghost use Rattle.row_check.specs.Owned.{AreOwned, AreShared, MarksOwners, AreMarkedOn, SpellsRowWithin, TellsShard};
 
 use crate::unit_marks::UnitMarks;
 use meta_log::Super;
@@ -47,7 +47,7 @@ fn mark_row(marks: &mut UnitMarks, width: Width, key: &[u8], value: &[u8])
 // Marks the units of all pages.
 fn marks_of(alloc: Global, sup: &Super, rows: &RowTable) -> Result<UnitMarks, AllocError>
     requires { NoBadRow sup.now rows.now.rows }
-    ensures { IfOk result (λ marks. AreMarked (width_of sup.now) rows.now.rows marks
+    ensures { IfOk result (λ marks. MarksOwners (width_of sup.now) rows.now.rows marks
         × (length marks.owned ≡ sup.now.units) × (length marks.shared ≡ sup.now.units)) }
 {
     let mut marks = UnitMarks::new(alloc, sup.units)?;

@@ -2,7 +2,7 @@
 ghost use Rattle.std.specs.Prelude.{◌≡◌, ◌+◌, ◌<◌, ◌≤◌, List, IfOk, false, length, replicate};
 ghost use Rattle.row_format.specs.Prelude.{Extent};
 ghost use Rattle.onode_codec.specs.Reading.{SpellExtents};
-ghost use Rattle.row_check.specs.Marks.{no_marks, one_more, run_marked, extents_marked, SpellExtentsBelow};
+ghost use Rattle.row_check.specs.Marks.{no_marks, one_page_more, run_marked, extents_marked, SpellExtentsBelow};
 
 use onode_codec::Head;
 use std::alloc::{AllocError, Global};
@@ -49,7 +49,7 @@ impl UnitMarks {
     // One page more stands on the unit.
     fn mark(&mut self, unit: usize)
         requires { unit < length self.old.owned }
-        ensures { self.new ≡ one_more self.old unit }
+        ensures { self.new ≡ one_page_more self.old unit }
     {
         let was_owned = replace(&mut self.owned[unit], true);
         self.shared[unit] = was_owned || self.shared[unit];

@@ -9,10 +9,10 @@ use Rattle.object_model.specs.declared.op.Op.TheVariants.{MkColl}
 use Rattle.unit_fields.specs.Prelude.{IsCollName}
 use Rattle.unit_fields.specs.declared.width.Width.{Width}
 use Rattle.byte_maps.specs.ByteMap.{byte_order}
-use Rattle.row_format.specs.Prelude.{coll_key, onode_key, Extent, own, Row, collection, onode, shard, attribute, omap_header, omap_pair, bitmap}
+use Rattle.row_format.specs.Prelude.{coll_key, onode_key, Extent, own, Row, collection, onode, shard}
 use Rattle.row_format.proofs.Prelude.{same_head, same_coll, coll_no_object, bitmap_no_coll}
-use Rattle.store_image.specs.Prelude.{HasOnode, HasShard, HasObject, IsInPlace, NoBadRow, Owner, page_of, Owns, IsOwned, IsMarked, IsExactBut, HasSoleOwner, IsShape, ObjectsStand}
-use Rattle.store_image.proofs.Prelude.{equal_or_not}
+use Rattle.store_image.specs.Prelude.{HasOnode, HasShard, NoBadRow, Owner, page_of, Owns, IsOwned, IsMarked, IsExactBut, HasSoleOwner, IsShape, ObjectsStand}
+use Rattle.store_image.proofs.Prelude.{equal_or_not, Carries, carried}
 use Rattle.row_facts.specs.Operations.{coll_ops, coll_change}
 use Rattle.row_facts.proofs.Bits.{bits_stay_set, exact_stays}
 use Rattle.row_facts.proofs.Maps.{get_same, get_other}
@@ -118,29 +118,18 @@ coll_after objects after c is = elim (map.get objects c) as (λ x. map.get objec
 
 -- ---- good rows
 
-object_kept : (s : Super) (rows : Rows) (c d u : List ℕ) → HasObject rows d u → HasObject (put_row (width_of s) rows (collection c)) d u
-object_kept s rows c d u has =
-    (key_kept (width_of s) rows (collection c) (coll_key d) has.0, key_kept (width_of s) rows (collection c) (onode_key d u) has.1)
-
-kept_in_place : (s : Super) (rows : Rows) (c : List ℕ) → IsCollName c → (x : Row) → IsInPlace s rows x
-    → IsInPlace s (put_row (width_of s) rows (collection c)) x
-kept_in_place s rows c name (collection d) is = tt
-kept_in_place s rows c name (onode d u size) is = (key_kept (width_of s) rows (collection c) (coll_key d) is.0, is.1)
-kept_in_place s rows c name (shard d u page es) is = record {
-  has_collection = key_kept (width_of s) rows (collection c) (coll_key d) is.has_collection;
-  has_onode = key_kept (width_of s) rows (collection c) (onode_key d u) is.has_onode;
-  ascend = is.ascend;
-  behind = λ earlier fs below has. is.behind earlier fs below (was_shard (width_of s) rows c name d u earlier fs has);
-  within = λ size has. is.within size (was_onode (width_of s) rows c name d u size has);
-  on_data = is.on_data;
+carries : (s : Super) (rows : Rows) (c : List ℕ) → IsCollName c → Carries s s rows (put_row (width_of s) rows (collection c))
+carries s rows c name = record {
+  coll = λ d. key_kept (width_of s) rows (collection c) (coll_key d);
+  onode = λ d u. key_kept (width_of s) rows (collection c) (onode_key d u);
+  was_size = was_onode (width_of s) rows c name;
+  was_shard = was_shard (width_of s) rows c name;
+  on_data = λ b is. is;
+  of_data = λ unit is. is;
 }
-kept_in_place s rows c name (attribute d u n v) is = object_kept s rows c d u is
-kept_in_place s rows c name (omap_header d u v) is = object_kept s rows c d u is
-kept_in_place s rows c name (omap_pair d u k v) is = object_kept s rows c d u is
-kept_in_place s rows c name (bitmap q bits) is = is
 
 pub coll_good : (s : Super) (rows : Rows) (c : List ℕ) → IsCollName c → NoBadRow s rows → NoBadRow s (rows_after rows (coll_ops c))
-coll_good s rows c name good = good_after (width_of s) rows (collection c) s name good tt (λ x has apart is. kept_in_place s rows c name x is)
+coll_good s rows c name good = good_after (width_of s) rows (collection c) s name good tt (λ x has apart is. carried s s rows (put_row (width_of s) rows (collection c)) (carries s rows c name) x is)
 
 pub coll_stands : (w : Width) (at : ℕ → List ℕ) (rows : Rows) (objects after : Objects) (c : List ℕ) → ObjectsStand w at rows objects
     → transaction_effect (coll_change c) objects ≡ Ok after → ObjectsStand w at (rows_after rows (coll_ops c)) after

@@ -2,4 +2,5 @@ pub mod KeyLemmas
 pub mod ThingLemmas
 pub mod ExtentReading
 pub mod RowLemmas
+pub mod KindLemmas
 pub mod Prelude

@@ -28,7 +28,7 @@ row_again w (omap_header c o value) fits = refl
 row_again w (omap_pair c o key value) fits = refl
 row_again w (bitmap r bits) fits = refl
 
-of_some : {X : Type 0} (a b : X) → Some a ≡ Some b → a ≡ b
+pub of_some : {X : Type 0} (a b : X) → Some a ≡ Some b → a ≡ b
 of_some a b e = ap (λ o. unwrap_or o a) e
 
 -- a row under a key is of what the key names

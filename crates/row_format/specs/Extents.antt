@@ -2,6 +2,7 @@
 use Rattle.std.specs.Prelude.{◌≡◌, ℕ, ◌+◌, ◌-◌, ◌<◌, ◌≤◌, ◌^◌, nat_lt, nat_le, ◌&&◌, List, [], ◌∷◌, ◌++◌, length, Option, Some, None, if◌then◌else◌, slice_index}
 use Rattle.std.specs.List.{flat_map, AllByRecursion}
 use Rattle.std.specs.Int.{w16, w32, to_le_bytes}
+use Rattle.ordered_lists.specs.Lists.{Ascend}
 use Rattle.unit_fields.specs.declared.width.Width.{Width}
 use Rattle.row_format.specs.Csums.{csum_bytes, FitsCsum}
 
@@ -42,8 +43,7 @@ pub record FitsExtent (w : Width) (e : Extent) : Type 0 where
 
 -- the extents ascend, and none reaches into the next
 abbrev pub ExtentsAscend : List Extent → Type 0
-ExtentsAscend [] = Unit {0}
-ExtentsAscend (e ∷ es) = AllByRecursion (λ later. page_end e ≤ later.first) es × ExtentsAscend es
+ExtentsAscend es = Ascend (λ e later. page_end e ≤ later.first) es
 
 -- the first extent begins at this page
 abbrev pub BeginsAt : ℕ → List Extent → Type 0

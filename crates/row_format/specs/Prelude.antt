@@ -7,4 +7,4 @@ pub use Rattle.row_format.specs.Bits.{bit_row, bit_in, bit_rows}
 pub use Rattle.row_format.specs.Things.{a_collection, an_onode, a_shard, an_attribute, an_omap_header, an_omap_pair, a_deferred_write, a_shared_blob, a_bitmap_row, name_in, behind_name, object_thing, thing_of}
 pub use Rattle.row_format.specs.ExtentReading.{csums_in, size_in, extent_in, extents_by}
 unfoldable pub use Rattle.row_format.specs.ExtentReading.{first_in, count_in, unit_in, extents_read}
-pub use Rattle.row_format.specs.Row.{Row, collection, onode, shard, attribute, omap_header, omap_pair, bitmap, row_key, row_value, FitsOnode, FitsShard, FitsNamed, FitsHeader, FitsBitmap, FitsRow, row_thing, IsOfSameThing, row_of}
+pub use Rattle.row_format.specs.Row.{Row, collection, onode, shard, attribute, omap_header, omap_pair, bitmap, row_key, row_value, FitsOnode, FitsShard, FitsNamed, FitsHeader, FitsBitmap, FitsRow, row_thing, IsOfSameThing, row_of, ShardRow, as_row, no_shard, shard_in}

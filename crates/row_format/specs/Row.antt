@@ -106,3 +106,23 @@ row_of w (an_omap_header c o) value = Some (omap_header c o value)
 row_of w (an_omap_pair c o key) value = Some (omap_pair c o key value)
 row_of w (a_bitmap_row r) value = Some (bitmap r value)
 row_of w _ value = None
+
+-- what a shard says: of which object, from which page on, and its extents
+pub record ShardRow : Type 0 where
+  pub coll : List ℕ
+  pub object : List ℕ
+  pub page : ℕ
+  pub extents : List Extent
+
+-- as a row
+abbrev pub as_row : ShardRow → Row
+as_row s = shard s.coll s.object s.page s.extents
+
+-- one that says nothing
+abbrev pub no_shard : ShardRow
+no_shard = record { coll = []; object = []; page = 0; extents = [] }
+
+-- what a row says of an object's extents: nothing, where it is no shard
+abbrev pub shard_in : Row → ShardRow
+shard_in (shard c o page extents) = record { coll = c; object = o; page = page; extents = extents }
+shard_in _ = no_shard

@@ -1,13 +1,13 @@
 -- Which keys and values are which rows.
-use Rattle.std.proofs.Common.{◌≡◌, ◌≢◌, ◌↔◌, ℕ, ◌^◌, ◌<◌, ◌≤◌, Bool, true, false, not, IsTrue, List, Some, length, refl, sym, ap, subst, ◌∙◌, arith}
-use Rattle.std.specs.Int.{w64, from_le_bytes}
+use Rattle.std.proofs.Common.{◌≡◌, ◌≢◌, ◌↔◌, ℕ, ◌^◌, ◌<◌, ◌≤◌, Bool, true, false, not, IsTrue, List, Some, length, refl, sym, ap, subst, ◌∙◌}
+use Rattle.std.specs.Int.{w32, w64, to_be_bytes, from_le_bytes}
 use Rattle.unit_fields.specs.Prelude.{IsName, IsCollName}
 use Rattle.unit_fields.specs.declared.width.Width.{Width}
 use Rattle.meta_rows.specs.Prelude.{all_zero}
 use Rattle.row_format.specs.Prelude.{onode_key, shard_key, header_key, bitmap_key, Extent, BeginsAt, collection, onode, shard, attribute, omap_header, omap_pair, bitmap, an_onode, a_shard, an_omap_header, thing_of}
 use Rattle.row_format.specs.Things.{Thing}
 use Rattle.row_format.specs.Row as format
-use Rattle.row_format.proofs.Prelude.{same_head, bitmap_no_coll, bitmap_no_object, onode_again, shard_again, header_again, reads_row}
+use Rattle.row_format.proofs.Prelude.{begins_b, onode_again, shard_again, header_again, reads_row}
 unfoldable use Rattle.row_format.specs.Prelude.{extents_read}
 use Rattle.onode_codec.specs.Reading.{SpellExtents}
 use Rattle.onode_codec.proofs.Again.{same_extents}
@@ -64,13 +64,11 @@ module _ (w : Width) (c o : List ℕ) (coll : IsCollName c) (object : IsName o) 
 
 -- a value that isn't 16 bytes, or has no byte other than zero
 pub no_bits : (w : Width) (row : ℕ) (value : List ℕ) → ((length value ≡ 16) → (all_zero value ≡ false) → ⊥) → IsNoRow w (bitmap_key row) value
-no_bits w row value none (collection d) s = bitmap_no_coll row d s.key_is
-no_bits w row value none (onode d u size) s = bitmap_no_object row d u _ s.key_is
-no_bits w row value none (shard d u page es) s = bitmap_no_object row d u _ s.key_is
-no_bits w row value none (attribute d u name v) s = omega (arith, same_head _ _ _ _ s.key_is)
-no_bits w row value none (omap_header d u v) s = omega (arith, same_head _ _ _ _ s.key_is)
-no_bits w row value none (omap_pair d u k v) s = omega (arith, same_head _ _ _ _ s.key_is)
-no_bits w row value none (bitmap r bits) s = none (ap length s.value_is ∙ s.fits.size) (ap all_zero s.value_is ∙ s.fits.some)
+no_bits w row value none r s =
+    let is = begins_b w (to_be_bytes w32 row) r s.fits s.key_is in
+    let fits : format.FitsRow w (bitmap is.0 is.1) = subst (format.FitsRow w) is.2 s.fits in
+    let value_is : value ≡ is.1 = s.value_is ∙ ap (format.row_value w) is.2 in
+    none (ap length value_is ∙ fits.size) (ap all_zero value_is ∙ fits.some)
 
 -- 16 bytes are bits where one isn't zero
 pub bits_test : (value : List ℕ) (zero : Bool) → zero ≡ all_zero value → length value ≡ 16

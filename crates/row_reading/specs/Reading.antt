@@ -45,10 +45,10 @@ abbrev pub IsNoPart : ℕ → List ℕ → Type 0
 IsNoPart kind bytes = (part : Part) → ¬ IsPart kind bytes part
 
 -- the key of what is named
-abbrev pub key_bytes : RowKey → List ℕ
-key_bytes (Collection c) = coll_key c
-key_bytes (Object c o part) = object_key (part_kind part) c o (part_bytes part)
-key_bytes (Bitmap r) = bitmap_key r
+abbrev pub spelled_key : RowKey → List ℕ
+spelled_key (Collection c) = coll_key c
+spelled_key (Object c o part) = object_key (part_kind part) c o (part_bytes part)
+spelled_key (Bitmap r) = bitmap_key r
 
 abbrev pub FitsKey : RowKey → Type 0
 FitsKey (Collection c) = IsCollName c
@@ -58,7 +58,7 @@ FitsKey (Bitmap r) = r < bit_rows
 -- the bytes are the key of this
 pub record SpellsKey (bytes : List ℕ) (key : RowKey) : Type 0 where
   pub fits : FitsKey key
-  pub spelled : bytes ≡ key_bytes key
+  pub spelled : bytes ≡ spelled_key key
 
 -- the same, by the kind and what stands behind it
 abbrev pub SpellsObject : ℕ → List ℕ → RowKey → Type 0
@@ -72,14 +72,14 @@ abbrev pub IsNoObject : ℕ → List ℕ → Type 0
 IsNoObject kind bytes = (c o : List ℕ) (part : Part) → ¬ SpellsObject kind bytes (Object c o part)
 
 -- a row that was read from this value, as the formats name it
-abbrev pub row_of : row.Row → List ℕ → format.Row
-row_of (rows.Collection c) value = format.collection c
-row_of (rows.Onode c o size) value = format.onode c o size
-row_of (rows.Shard c o page extents) value = format.shard c o page extents
-row_of (rows.Attribute c o name) value = format.attribute c o name value
-row_of (rows.OmapHeader c o) value = format.omap_header c o value
-row_of (rows.OmapPair c o key) value = format.omap_pair c o key value
-row_of (rows.Bitmap r bits) value = format.bitmap r bits
+abbrev pub format_row : row.Row → List ℕ → format.Row
+format_row (rows.Collection c) value = format.collection c
+format_row (rows.Onode c o size) value = format.onode c o size
+format_row (rows.Shard c o page extents) value = format.shard c o page extents
+format_row (rows.Attribute c o name) value = format.attribute c o name value
+format_row (rows.OmapHeader c o) value = format.omap_header c o value
+format_row (rows.OmapPair c o key) value = format.omap_pair c o key value
+format_row (rows.Bitmap r bits) value = format.bitmap r bits
 
 -- the key and the value are the one spelling of this row, with checksums of this width
 pub record SpellsRow (w : Width) (key value : List ℕ) (r : format.Row) : Type 0 where

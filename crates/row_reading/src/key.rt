@@ -5,20 +5,21 @@ ghost use Rattle.std.specs.Int.{w32, to_be_bytes};
 ghost use Rattle.unit_fields.specs.Prelude.{IsCollName};
 ghost use Rattle.row_reading.specs.Reading.{IsPart, IsNoPart, IsNoObject, IsNoKey, SpellsObject, SpellsKey};
 
+use onode_codec::RowKind;
 use std::alloc::{AllocError, Global};
 use unit_fields::{CollName, Fields, Name};
 
-// The first byte of a key: the kind of its row.
-const COLLECTION: u8 = b'C';
+// The first bytes of keys that are read.
+const COLLECTION: u8 = RowKind::Collection as u8;
 
-/// The same of an object's onode and its shards.
-pub const OBJECT: u8 = b'O';
+/// That of the keys of an object's onode and its shards.
+pub const OBJECT: u8 = RowKind::Object as u8;
 
-const ATTRIBUTE: u8 = b'A';
+const ATTRIBUTE: u8 = RowKind::Attribute as u8;
 
-const OMAP: u8 = b'M';
+const OMAP: u8 = RowKind::Omap as u8;
 
-const BITMAP: u8 = b'b';
+const BITMAP: u8 = RowKind::Bitmap as u8;
 
 // What follows an object's names in the keys of its onode and its shards, and what ends the key of a shard.
 const ONODE: u8 = b'o';

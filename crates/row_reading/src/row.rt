@@ -6,7 +6,7 @@ ghost use Rattle.meta_rows.specs.Prelude.{all_zero};
 ghost use Rattle.unit_fields.specs.Prelude.{IsName, IsCollName};
 ghost use Rattle.unit_fields.specs.declared.width.Width.{Width};
 ghost use Rattle.row_format.specs.Prelude.{onode_key, shard_key, attr_key, header_key, omap_key, bitmap_key, BeginsAt};
-ghost use Rattle.row_reading.specs.Reading.{row_of, SpellsRow, IsNoRow};
+ghost use Rattle.row_reading.specs.Reading.{format_row, SpellsRow, IsNoRow};
 
 use crate::key::{Part, RowKey, read_key_after};
 use byte_maps::{Bytes, Items, is_zero};
@@ -68,7 +68,7 @@ fn read_onode(coll: CollName, object: Name, value: &[u8]) -> Option<Row>
     requires coll { IsCollName coll }
     requires object { IsName object }
     ensures { MatchOption result ((width : Width) → IsNoRow width (onode_key coll object) value.now)
-        (λ row. (width : Width) → SpellsRow width (onode_key coll object) value.now (row_of row value.now)) }
+        (λ row. (width : Width) → SpellsRow width (onode_key coll object) value.now (format_row row value.now)) }
 {
     match Onode::decode(value) {
         Some(onode) => Some(Row::Onode {
@@ -102,7 +102,7 @@ fn read_shard(
     requires coll { IsCollName coll }
     requires object { IsName object }
     ensures { IfOk result (λ found. MatchOption found (IsNoRow width (shard_key coll object page) value.now)
-        (λ row. SpellsRow width (shard_key coll object page) value.now (row_of row value.now))) }
+        (λ row. SpellsRow width (shard_key coll object page) value.now (format_row row value.now))) }
 {
     let Some(extents) = decode_extents(alloc, width, value)? else {
         return Ok(None);
@@ -139,7 +139,7 @@ fn read_attribute(coll: CollName, object: Name, name: Name, value: &[u8]) -> Opt
     requires object { IsName object }
     requires name { IsName name }
     ensures { MatchOption result ((width : Width) → IsNoRow width (attr_key coll object name) value.now)
-        (λ row. (width : Width) → SpellsRow width (attr_key coll object name) value.now (row_of row value.now)) }
+        (λ row. (width : Width) → SpellsRow width (attr_key coll object name) value.now (format_row row value.now)) }
 {
     if !is_value(value) {
         return None;
@@ -152,7 +152,7 @@ fn read_header(coll: CollName, object: Name, value: &[u8]) -> Option<Row>
     requires coll { IsCollName coll }
     requires object { IsName object }
     ensures { MatchOption result ((width : Width) → IsNoRow width (header_key coll object) value.now)
-        (λ row. (width : Width) → SpellsRow width (header_key coll object) value.now (row_of row value.now)) }
+        (λ row. (width : Width) → SpellsRow width (header_key coll object) value.now (format_row row value.now)) }
 {
     if !is_header(value) {
         return None;
@@ -166,7 +166,7 @@ fn read_pair(coll: CollName, object: Name, key: Name, value: &[u8]) -> Option<Ro
     requires object { IsName object }
     requires key { IsName key }
     ensures { MatchOption result ((width : Width) → IsNoRow width (omap_key coll object key) value.now)
-        (λ row. (width : Width) → SpellsRow width (omap_key coll object key) value.now (row_of row value.now)) }
+        (λ row. (width : Width) → SpellsRow width (omap_key coll object key) value.now (format_row row value.now)) }
 {
     if !is_value(value) {
         return None;
@@ -185,7 +185,7 @@ fn are_bits(value: &[u8]) -> bool
 fn read_bits(alloc: Global, row: u32, value: &[u8]) -> Result<Option<Row>, AllocError>
     requires { row < 33554432 }
     ensures { IfOk result (λ found. MatchOption found ((width : Width) → IsNoRow width (bitmap_key row) value.now)
-        (λ r. (width : Width) → SpellsRow width (bitmap_key row) value.now (row_of r value.now))) }
+        (λ r. (width : Width) → SpellsRow width (bitmap_key row) value.now (format_row r value.now))) }
 {
     if !are_bits(value) {
         return Ok(None);
@@ -203,7 +203,7 @@ pub fn read_row(
     value: &[u8],
 ) -> Result<Option<Row>, AllocError>
     ensures { IfOk result (λ found. MatchOption found (IsNoRow width key.now value.now)
-        (λ row. SpellsRow width key.now value.now (row_of row value.now))) }
+        (λ row. SpellsRow width key.now value.now (format_row row value.now))) }
 {
     read_row_after(alloc, width, None, key, value)
 }
@@ -217,7 +217,7 @@ pub fn read_row_after(
     value: &[u8],
 ) -> Result<Option<Row>, AllocError>
     ensures { IfOk result (λ found. MatchOption found (IsNoRow width key.now value.now)
-        (λ row. SpellsRow width key.now value.now (row_of row value.now))) }
+        (λ row. SpellsRow width key.now value.now (format_row row value.now))) }
 {
     match read_key_after(alloc, known, key)? {
         None => Ok(None),

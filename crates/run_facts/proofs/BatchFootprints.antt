@@ -5,7 +5,7 @@ use Rattle.byte_maps.specs.Units.{units_from}
 use Rattle.meta_log.proofs.PieceLemmas.{given_from-none}
 use Rattle.log_facts.specs.Prelude.{not_sent}
 use Rattle.store_steps.specs.declared.step.Step.TheVariants as step
-use Rattle.store_steps.specs.Prelude.{Batch, State, batch_ops, finished, taken_up, choice, left_by, most_grouped, flush_sent, sync_sent, commit_of, acknowledged, is_ready, OpensBatch, DoesTake, DoesFlush, DoesSeal, DoesRecord, DoesSync, DoesFinish, piece_unit, piece_bytes, uncommitted, all_fresh, given_fresh, begun_ops, submitted_from, second_flush, intents, is_in, data_part, half_part, book_part, Adds, nothing, flushes, on_half, Touch, IsPlaced, Footprint}
+use Rattle.store_steps.specs.Prelude.{Batch, State, batch_ops, finished, taken_up, choice, left_by, most_grouped, flush_sent, sync_sent, commit_of, acknowledged, is_ready, OpensBatch, DoesTake, DoesFlush, DoesSeal, DoesRecord, DoesSync, DoesFinish, piece_unit, begun_piece_bytes, uncommitted, all_fresh, given_fresh, begun_ops, submitted_from, second_flush, intents, is_in, data_part, half_part, book_part, Adds, nothing, flushes, on_half, Touch, IsPlaced, Footprint}
 use Rattle.store_steps.specs.RowsGo as rows
 use Rattle.store_steps.specs.DataGoes as units
 use Rattle.store_steps.specs.HalfGoes as half
@@ -159,7 +159,7 @@ module _ (s : State) (d : Disk) (r : Begun) (lying : LiesInRecord (unit_count s.
   piece_place : piece_unit s.log r ≡ active_unit s.log.sup + s.log.tail + from
   piece_place = ap (λ (n : ℕ). active_unit s.log.sup + s.log.tail + n) lying.begins
 
-  piece_cut : piece_bytes s.log.number r ≡ units_from from (given_from count r.given - from) (record_units s.log.number r.ops)
+  piece_cut : begun_piece_bytes s.log.number r ≡ units_from from (given_from count r.given - from) (record_units s.log.number r.ops)
   piece_cut = ap (λ (n : ℕ). units_from n (piece_units count r.given) (record_units s.log.number r.ops)) lying.begins
       ∙ ap (λ (n : ℕ). units_from from n (record_units s.log.number r.ops))
       (rest (piece_first count r.given) (piece_units count r.given) from (given_from count r.given) lying.begins lying.ends)
@@ -173,10 +173,10 @@ module _ (s : State) (d : Disk) (r : Begun) (lying : LiesInRecord (unit_count s.
       lower : (first count from end : ℕ) → first ≡ from → first + count ≡ end → from ≤ end
       lower first count from end begins ends = omega (arith, begins, ends)
 
-  piece_in_half : s.log.tail + count ≤ s.log.sup.half → length (piece_bytes s.log.number r) ≡ 4096 * piece_units count r.given
-      → 4096 * piece_unit s.log r + length (piece_bytes s.log.number r) ≤ 4096 * (active_unit s.log.sup + s.log.sup.half)
+  piece_in_half : s.log.tail + count ≤ s.log.sup.half → length (begun_piece_bytes s.log.number r) ≡ 4096 * piece_units count r.given
+      → 4096 * piece_unit s.log r + length (begun_piece_bytes s.log.number r) ≤ 4096 * (active_unit s.log.sup + s.log.sup.half)
   piece_in_half room size = inside (active_unit s.log.sup) s.log.tail (piece_first count r.given) (piece_units count r.given) count s.log.sup.half
-      (length (piece_bytes s.log.number r)) lying.within room size
+      (length (begun_piece_bytes s.log.number r)) lying.within room size
     where
       inside : (active tail first count units half size : ℕ) → first + count ≤ units → tail + units ≤ half → size ≡ 4096 * count
           → 4096 * (active + tail + first) + size ≤ 4096 * (active + half)
@@ -189,7 +189,7 @@ record_footprint s d s' d' kept ready does =
     let up : s.down ≡ None = ready_not_down s d.depth step.Record refl ready in
     let known : ReadyRecord s r = known_record s d r kept ready does.begun in
     let lying : LiesInRecord (unit_count s.log.number r.ops) r.given = piece_lies s d r kept ready does.begun in
-    let piece : Touch = on_half does.ticket.place (piece_unit s.log r) (piece_bytes s.log.number r) in
+    let piece : Touch = on_half does.ticket.place (piece_unit s.log r) (begun_piece_bytes s.log.number r) in
     let placed : IsPlaced s.log.sup piece = (omega (arith, piece_place s d r lying), piece_in_half s d r lying known.room (piece_size s d r kept ready does.begun)) in
     subst (λ (t : State). Footprint s d t d') (sym does.after) (record {
       touch = piece;
@@ -198,7 +198,7 @@ record_footprint s d s' d' kept ready does =
       counted = refl;
       rows = rows.same refl;
       units = units.same tt refl;
-      half = half.gives_piece does.ticket.place (piece_unit s.log r) (piece_bytes s.log.number r) (record {
+      half = half.gives_piece does.ticket.place (piece_unit s.log r) (begun_piece_bytes s.log.number r) (record {
         ops = r.ops;
         begun = ap begun_ops does.begun;
         second = record_second s d.flights d.depth r (kept.up up).flights (ready_by_table s d.depth step.Record up ready) does.begun;

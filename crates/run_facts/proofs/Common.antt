@@ -8,6 +8,7 @@ pub use Rattle.object_model.specs.declared.book.Commit.{Commit}
 pub use Rattle.object_model.specs.declared.book.Entry.{Entry}
 pub use Rattle.object_model.specs.declared.command.Answer.{Answer}
 pub use Rattle.object_model.specs.declared.command.Command.{Command}
+pub use Rattle.object_model.specs.declared.command.Read.{Read}
 pub use Rattle.meta_log.specs.Prelude.{width_of}
 pub use Rattle.meta_log.specs.declared.slot.Super.{Super}
 pub use Rattle.store_image.specs.Prelude.{IsDataUnit}

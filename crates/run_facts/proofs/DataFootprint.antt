@@ -3,7 +3,7 @@ use Rattle.std.proofs.Common.{◌≡◌, ℕ, ◌+◌, ◌*◌, ◌<◌, List, [
 use Rattle.run_facts.proofs.Common.{AllByRecursion, option_map_or, Disk, IsDataUnit, FreshUnit, Context}
 use Rattle.block_device.specs.Prelude.{WritesUnit}
 use Rattle.store_steps.specs.declared.step.Step.TheVariants as step
-use Rattle.store_steps.specs.Prelude.{Batch, State, Unsent, unsent_units, run_bytes, given_more, with_context, is_ready, DoesData, uncommitted, all_fresh, given_fresh, Intent, rows_part, data_part, on_data, run_write, IsPlaced, IsInRow, Spares, Gives, Footprint}
+use Rattle.store_steps.specs.Prelude.{Batch, State, Unsent, unsent_units, run_bytes, given_more, with_context, is_ready, DoesData, uncommitted, all_fresh, given_fresh, Intent, rows_part, data_part, on_data, run_write, IsPlaced, IsInRow, Spares, SubmitsRun, Footprint}
 use Rattle.store_steps.specs.RowsGo as rows
 use Rattle.store_steps.specs.DataGoes as units
 use Rattle.store_steps.specs.HalfGoes as half
@@ -100,7 +100,7 @@ module _ (s : State) (d : Disk) (kept : IsKept s d) (up : s.down ≡ None) (n : 
   of_back : AllByRecursion (λ f. Contains (taken_by back) f.unit → ⊥) (unsent_units n)
   of_back = all_then (λ f. Contains (units_of x.fresh) f.unit) (λ f. Contains (taken_by back) f.unit → ⊥) (λ f c. (others f c).behind) (unsent_units n) own
 
-  gives : Gives n (data_part s) (record (data_part s) { given = given_fresh (batch ++ with_context n.place (given_more count) s.pending) })
+  gives : SubmitsRun n (data_part s) (record (data_part s) { given = given_fresh (batch ++ with_context n.place (given_more count) s.pending) })
   gives = record {
     front = given_fresh batch ++ (given_fresh front ++ take x.given x.fresh);
     back = given_fresh back;

@@ -96,8 +96,8 @@ footprint_of (submitting client line change) s d s' d' kept up (may, does, same)
   | inr (inl (a, is)) ↦ enter_footprint client line (ask.Change change) a s d s' d' same is.after (refuses client line change a is)
   | inr (inr turned) ↦ stay_footprint s d s' d' same turned
 ]
-footprint_of (reading client line command) s d s' d' kept up (may, does, same) = elim does [
-  | inl (a, is) ↦ enter_footprint client line command a s d s' d' same is.after (reads client line command a is)
+footprint_of (reading client line read) s d s' d' kept up (does, same) = elim does [
+  | inl (a, is) ↦ enter_footprint client line (ask.Read read) a s d s' d' same is.after (reads client line read a is)
   | inr turned ↦ stay_footprint s d s' d' same turned
 ]
 footprint_of (stepping one) s d s' d' kept up made =

@@ -98,11 +98,11 @@ down_call (submitting client line change) s d s' d' first kept down made = inr (
     of_answer (inl accepts) = absurd (not_both s'.down first (ap (λ (t : State). t.down) accepts.after ∙ accepts.can_note.up) down)
     of_answer (inr (inl refused)) = absurd (not_both s'.down first (ap (λ (t : State). t.down) refused.1.after ∙ refused.1.can_note.up) down)
     of_answer (inr (inr turned)) = record { state = turned.same; history = ap (λ (e : Disk). e.history) made.2 }
-down_call (reading client line command) s d s' d' first kept down made = inr (of_answer made.1)
+down_call (reading client line read) s d s' d' first kept down made = inr (of_answer made.0)
   where
-    of_answer : Reads client line command s d s' → IsStill s d s' d'
+    of_answer : Reads client line read s d s' → IsStill s d s' d'
     of_answer (inl (a, is)) = absurd (not_both s'.down first (ap (λ (t : State). t.down) is.after ∙ is.can_note.up) down)
-    of_answer (inr turned) = record { state = turned.same; history = ap (λ (e : Disk). e.history) made.2 }
+    of_answer (inr turned) = record { state = turned.same; history = ap (λ (e : Disk). e.history) made.1 }
 down_call (stepping step) s d s' d' first kept down made = of_leaves (kept_leaves step s d s' d' kept made.0 made.1)
   where
     of_leaves : StepOutcome s d s' d' → GoesDown s d s' d'

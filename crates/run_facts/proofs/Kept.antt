@@ -1,9 +1,9 @@
 -- Each call of the kernel keeps what it keeps.
 use Rattle.std.proofs.Common.{◌≡◌, ◌⊎◌, inl, inr, ℕ, zero, suc, ◌+◌, ◌-◌, ◌*◌, ◌^◌, ◌<◌, ◌≤◌, true, List, [], ◌∷◌, ◌++◌, length, map, length-append, Option, None, is_some, refl, sym, ap, subst, ◌∙◌, arith}
-use Rattle.run_facts.proofs.Common.{option_map_or, Disk, Flight, IsSound, Waited, Change, Command, Answer, Entry, piece_count, Plan, PlansKeep, IsKnown, Space, Context, Step}
+use Rattle.run_facts.proofs.Common.{option_map_or, Disk, Flight, IsSound, Waited, Change, Command, Read, Answer, Entry, piece_count, Plan, PlansKeep, IsKnown, Space, Context, Step}
 use Rattle.object_model.specs.declared.command.Command.TheVariants as ask
 use Rattle.object_model.specs.declared.command.Answer.TheVariants as answer
-use Rattle.store_steps.specs.Prelude.{Batch, State, is_ready, rows_units, applied_count, entry_limit, need_of, context_of, accepted_with, entered, Accepts, Refuses, Found, opened, stepping, DoesOrFails, AnswersRead, Reads, Intent, intent_of, rows_part, book_part, joined, Footprint}
+use Rattle.store_steps.specs.Prelude.{Batch, State, is_ready, rows_units, applied_count, entry_limit, need_of, context_of, accepted_with, entered, Accepts, Refuses, Found, opened, stepping, DoesOrFails, AnswersRead, Reads, Intent, intent_of, rows_part, book_part, with_accepted, Footprint}
 use Rattle.store_steps.specs.RowsGo as rows
 use Rattle.flight_facts.specs.Prelude.{AreOfJobs, FitsRecord, FlightsMatch, check_most, check_due, sum_work, batch_work, switch_work, work_left, entry_work, budget, measure}
 use Rattle.flight_facts.proofs.Prelude.{StepOutcome, has_stepped, has_waited, has_gone_down, GoneDown, one_more_waits, one_more_entry, waited_does, Paid, sum_both, due_most}
@@ -147,7 +147,7 @@ entered_kept s d client line command a kept up below =
 -- one more joins the rows
 joined_rows : (s : State) (client line : ℕ) (change : Change) (plan : Plan)
     → rows_part (accepted_with client line change plan s)
-    ≡ joined (intent_of (context_of (length s.book.entries) change s.log plan)) (rows_part s)
+    ≡ with_accepted (intent_of (context_of (length s.book.entries) change s.log plan)) (rows_part s)
 joined_rows s client line change plan =
     ap (λ (is : List Intent). (let t : State = accepted_with client line change plan s in record (rows_part t) { intents = is }))
     (intents_push (option_map_or (λ (b : Batch). b.contexts) s.batch []) s.pending (context_of (length s.book.entries) change s.log plan))
@@ -246,15 +246,15 @@ kept_refuse s s' d client line change a kept may does = subst (λ (t : State). I
 -- ---- reading
 
 -- a read that is answered adds an entry to the book
-pub kept_answer : (s s' : State) (d : Disk) (client line : ℕ) (command : Command) (a : Answer) → IsKept s d
-    → AnswersRead client line command a s d s' → IsKept s' d
-kept_answer s s' d client line command a kept is = subst (λ (t : State). IsKept t d) (sym is.after)
-    (entered_kept s d client line command a kept is.can_note.up is.can_note.room)
+pub kept_answer : (s s' : State) (d : Disk) (client line : ℕ) (read : Read) (a : Answer) → IsKept s d
+    → AnswersRead client line read a s d s' → IsKept s' d
+kept_answer s s' d client line read a kept is = subst (λ (t : State). IsKept t d) (sym is.after)
+    (entered_kept s d client line (ask.Read read) a kept is.can_note.up is.can_note.room)
 
 -- so does one that is turned away
-pub kept_read : (s s' : State) (d : Disk) (client line : ℕ) (command : Command) → IsKept s d → Reads client line command s d s' → IsKept s' d
-kept_read s s' d client line command kept (inl (a, is)) = kept_answer s s' d client line command a kept is
-kept_read s s' d client line command kept (inr away) = subst (λ (t : State). IsKept t d) (sym away.same) kept
+pub kept_read : (s s' : State) (d : Disk) (client line : ℕ) (read : Read) → IsKept s d → Reads client line read s d s' → IsKept s' d
+kept_read s s' d client line read kept (inl (a, is)) = kept_answer s s' d client line read a kept is
+kept_read s s' d client line read kept (inr away) = subst (λ (t : State). IsKept t d) (sym away.same) kept
 
 -- ---- opening
 

@@ -11,8 +11,8 @@ kept_call (submitting client line change) s s' d d' plans kept made sound = subs
   | inr (inl refused) ↦ kept_refuse s s' d client line change refused.0 kept made.0 refused.1
   | inr (inr away) ↦ subst (λ (t : State). IsKept t d) (sym away.same) kept
 ])
-kept_call (reading client line command) s s' d d' plans kept made sound =
-    subst (IsKept s') (sym made.2) (kept_read s s' d client line command kept made.1)
+kept_call (reading client line read) s s' d d' plans kept made sound =
+    subst (IsKept s') (sym made.1) (kept_read s s' d client line read kept made.0)
 kept_call (stepping step) s s' d d' plans kept made sound = kept_step step s s' d d' kept made.0 made.1 sound
 
 pub kept_run : (calls : List Call) (s s' : State) (d d' : Disk) → PlansKeep → IsKept s d → IsRun s d calls s' d' → IsKept s' d'

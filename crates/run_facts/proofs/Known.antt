@@ -5,7 +5,7 @@ use Rattle.block_device.specs.Prelude.{IsNotInFlight}
 use Rattle.meta_rows.specs.Prelude.{AllFit}
 use Rattle.meta_log.proofs.PieceLemmas.{lies}
 use Rattle.store_steps.specs.declared.step.Step.TheVariants.{Data, Flush, Seal, Record, Sync, Commit, Finish}
-use Rattle.store_steps.specs.Prelude.{Batch, State, Unsent, unsent_units, run_bytes, next_unsent, batch_ops, is_not_sent, applied_count, is_ready, is_drained, piece_unit, piece_bytes, all_fresh, intents, needs_by}
+use Rattle.store_steps.specs.Prelude.{Batch, State, Unsent, unsent_units, run_bytes, next_unsent, batch_ops, is_not_sent, applied_count, is_ready, is_drained, piece_unit, begun_piece_bytes, all_fresh, intents, needs_by}
 use Rattle.flight_facts.specs.Prelude.{IsNone, IsGivenPiece}
 use Rattle.flight_facts.proofs.Prelude.{record_long, idle_device, StandsIn, all_join, IsRunOf, row_at, run_has, run_inside, run_untouched, ready_not_down, ready_by_table, IsIdle, idle_uncommitted, drained_is_idle, unflown, none_left, rest_not_given, flush_unflown, sync_unflown, test_of, some_is, first_waits, sync_tests, all_left, pieces_ended}
 use Rattle.run_facts.specs.Prelude.{IsKept, IsKeptUp}
@@ -158,7 +158,7 @@ pub piece_lies : (s : State) (d : Disk) (r : Begun) → IsKept s d → is_ready 
 piece_lies s d r kept ready is = lies (unit_count s.log.number r.ops) r.given (known_record s d r kept ready is).more
 
 pub piece_size : (s : State) (d : Disk) (r : Begun) → IsKept s d → is_ready Record d.depth s ≡ true → s.log.begun ≡ Some r
-    → length (piece_bytes s.log.number r) ≡ 4096 * piece_units (unit_count s.log.number r.ops) r.given
+    → length (begun_piece_bytes s.log.number r) ≡ 4096 * piece_units (unit_count s.log.number r.ops) r.given
 piece_size s d r kept ready is = record_long s.log.number r (known_record s d r kept ready is).more
 
 -- no unit of what isn't given yet of the record is in flight
@@ -180,7 +180,7 @@ record_untouched s d r kept ready is =
     within tail j from units half lt le room = omega (arith, lt, le, room)
 
 pub next_piece_untouched : (s : State) (d : Disk) (r : Begun) → IsKept s d → is_ready Record d.depth s ≡ true → s.log.begun ≡ Some r
-    → IsNotInFlight d (piece_unit s.log r) (length (piece_bytes s.log.number r))
+    → IsNotInFlight d (piece_unit s.log r) (length (begun_piece_bytes s.log.number r))
 next_piece_untouched s d r kept ready is =
     let units : ℕ = unit_count s.log.number r.ops in
     let first : ℕ = piece_first units r.given in

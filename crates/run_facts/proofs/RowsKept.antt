@@ -2,7 +2,7 @@
 use Rattle.std.proofs.Common.{◌≡◌, ℕ, List, [], ◌∷◌, ◌++◌, map, sym, ap, subst, ◌∙◌}
 use Rattle.run_facts.proofs.Common.{Rows, rows_after, IsSuper, given}
 use Rattle.selections.specs.Fair.{IsComplete}
-use Rattle.store_steps.specs.Prelude.{Intent, is_in, released_by, rows_by, EachIsPlanned, AreTakenApart, SpaceIsCounted, CanJoin, RowsPart, RowsGo, joined, applied}
+use Rattle.store_steps.specs.Prelude.{Intent, is_in, released_by, rows_by, EachIsPlanned, AreTakenApart, SpaceIsCounted, CanJoin, RowsPart, RowsGo, with_accepted, applied}
 use Rattle.store_steps.specs.RowsGo as rows
 use Rattle.space_facts.proofs.Prelude.{rows_append, rows_by_ops, each_joined, apart_joined, each_alike, rows_alike, apart_alike, each_committed, good_committed, apart_committed, counted_alike, counted_joined, counted_committed, good_switched, planned_switched}
 use Rattle.run_facts.specs.Prelude.{IsSpaceOf, AreRowsKept}
@@ -15,7 +15,7 @@ MayGo p (rows.joins x is) = CanJoin p.sup p.rows p.intents x
 MayGo p other = Unit {0}
 
 module _ (p : RowsPart) (limits : IsSuper p.sup) (space : IsSpaceOf p.sup p.space) (kept : AreRowsKept p) where
-  join_keeps : (x : Intent) → CanJoin p.sup p.rows p.intents x → AreRowsKept (joined x p)
+  join_keeps : (x : Intent) → CanJoin p.sup p.rows p.intents x → AreRowsKept (with_accepted x p)
   join_keeps x can = record {
     submitted = ap (λ r. rows_after r x.ops) kept.submitted ∙ sym (rows_append p.rows p.intents (x ∷ []));
     good = kept.good;

@@ -241,7 +241,7 @@ switch_footprint s d s' d' kept ready does =
     let c : Checking = opened.checking in
     let ended = ended_all s w.0 opened last in
     let none : s.log.begun ≡ None = (rests_batch s d.flights m opened.batch).0 in
-    let number' : ℕ = (checks.switched s.log).number in
+    let number' : ℕ = (checks.switched_log s.log).number in
     let slot : slot_phase w.0.slot w.0.slot_flush ≡ written flushed =
     ap (λ (f : FlushState). slot_phase f w.0.slot_flush) (ended_flushed job.Slot w.0.slot ended.1.1.0)
     ∙ ap (λ (f : FlushState). written (flush_of f)) (ended_flushed job.SlotFlush w.0.slot_flush ended.1.1.1.0) in

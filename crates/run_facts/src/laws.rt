@@ -15,14 +15,14 @@ ghost use Rattle.object_model.specs.Prelude.{Change};
 ghost use Rattle.store_image.specs.Prelude.{HasPage};
 ghost use Rattle.plan_rows.specs.declared.plan.Plan.{Plan};
 ghost use Rattle.plan_drafts.specs.Prelude.{PlansKeep, IsKnown};
-ghost use Rattle.object_model.specs.declared.command.Command.{Command};
+ghost use Rattle.object_model.specs.declared.command.Read.{Read};
 ghost use Rattle.object_model.specs.declared.command.Answer.{Answer};
 ghost use Rattle.unit_allocator.specs.Prelude.{Space, free_units};
 ghost use Rattle.store_steps.specs.declared.step.Step.{Step};
 ghost use Rattle.store_steps.specs.declared.step.Step.TheVariants.{Data, Flush, Seal, Record, Sync, CheckWrite, CheckFlush, SlotWrite, SlotFlush};
 ghost use Rattle.store_steps.specs.declared.context.Context.{Context};
 ghost use Rattle.meta_store.specs.Store.{Begun, Checking};
-ghost use Rattle.store_steps.specs.Prelude.{Batch, State, Unsent, unsent_units, run_bytes, next_unsent, batch_ops, check_pieces, piece_unit, piece_bytes, Found, opened, is_ready, is_ready_up, is_drained, DoesOrFails, Reads, Call, Calls, IsRun, Accepts, Refuses, chosen, choice, left_by, accepted_with, data_sent, reaped, taken_up, committed_batch, uncommitted, all_fresh, bytes_in, memory_of, intents, is_in, SpaceIsCounted, HoldsAreCounted, Footprint};
+ghost use Rattle.store_steps.specs.Prelude.{Batch, State, Unsent, unsent_units, run_bytes, next_unsent, batch_ops, check_pieces, piece_unit, begun_piece_bytes, Found, opened, is_ready, is_ready_up, is_drained, DoesOrFails, Reads, Call, Calls, IsRun, Accepts, Refuses, chosen, choice, left_by, accepted_with, data_sent, reaped, taken_up, committed_batch, uncommitted, all_fresh, bytes_in, memory_of, intents, is_in, SpaceIsCounted, HoldsAreCounted, Footprint};
 ghost use Rattle.flight_facts.specs.Prelude.{measure};
 ghost use Rattle.run_facts.specs.Prelude.{IsKept, IsOpenable};
 
@@ -43,7 +43,7 @@ pub fn transactions_keep()
         → Accepts client line change s d s' → IsKept s' d }
     ensures refused { (client line : ℕ) (change : Change) (a : Answer) (s s' : State) (d : Disk) → IsKept s d → IsKnown change.ops
         → Refuses client line change a s d s' → IsKept s' d }
-    ensures read { (client line : ℕ) (command : Command) (s s' : State) (d : Disk) → IsKept s d → Reads client line command s d s'
+    ensures read { (client line : ℕ) (read : Read) (s s' : State) (d : Disk) → IsKept s d → Reads client line read s d s'
         → IsKept s' d }
 {}
 
@@ -141,7 +141,7 @@ pub fn next_is_untouched()
     ensures data { (s : State) (d : Disk) (next : Unsent) → IsKept s d → is_ready Data d.depth s ≡ true → next_unsent s.pending ≡ Some next
         → IsNotInFlight d next.first.unit (length (run_bytes (unsent_units next))) }
     ensures record { (s : State) (d : Disk) (writing : Begun) → IsKept s d → is_ready Record d.depth s ≡ true → s.log.begun ≡ Some writing
-        → IsNotInFlight d (piece_unit s.log writing) (length (piece_bytes s.log.number writing)) }
+        → IsNotInFlight d (piece_unit s.log writing) (length (begun_piece_bytes s.log.number writing)) }
     ensures check { (s : State) (d : Disk) (checking : Checking) (run : UnitRun) → IsKept s d → is_ready CheckWrite d.depth s ≡ true
         → s.log.check ≡ Some checking → slice_get (check_pieces s.log) checking.given ≡ Some run
         → IsNotInFlight d (other_unit s.log.sup + run.first) (4096 * run.count) }

@@ -5,7 +5,7 @@ use Rattle.std.proofs.lemmas.List.{take-append-drop}
 use Rattle.std.proofs.Math.Seq.{take-append_seam}
 use Rattle.block_device.specs.Prelude.{Rose}
 use Rattle.end_points.specs.Sink.{with_bytes}
-use Rattle.run_texts.specs.Prelude.{Output, TookFront, Printed, Waiting, IsUnderWay, HasStopped, PrintedSoFar, Adds}
+use Rattle.run_texts.specs.Prelude.{Output, TookFront, Printed, Waiting, IsPartWritten, HasStopped, PrintedSoFar, AddsText}
 use Rattle.run_texts.proofs.Taking.{with_nothing, with_two}
 
 -- what was printed so far, of the same text said otherwise
@@ -14,7 +14,7 @@ same_text : (failed : Bool) (start now : Output) (text other waiting : List ℕ)
 same_text failed start now text other waiting same so_far = subst (λ (t : List ℕ). PrintedSoFar failed start t waiting now) same so_far
 
 -- two texts, one behind the other
-pub both : {a b : List ℕ} {p q r : Waiting} {o1 o2 o3 : Output} → Adds a p q o1 o2 → Adds b q r o2 o3 → Adds (a ++ b) p r o1 o3
+pub both : {a b : List ℕ} {p q r : Waiting} {o1 o2 o3 : Output} → AddsText a p q o1 o2 → AddsText b q r o2 o3 → AddsText (a ++ b) p r o1 o3
 both {a} {b} {p} {q} {r} {o1} {o2} {o3} first second = record {
   more = λ start printed so_far.
       same_text r.failed start o3 ((printed ++ a) ++ b) (printed ++ (a ++ b)) r.bytes (append_assoc printed a b)
@@ -22,17 +22,17 @@ both {a} {b} {p} {q} {r} {o1} {o2} {o3} first second = record {
 }
 
 -- the same text, said otherwise
-pub said : {a b : List ℕ} {p q : Waiting} {o1 o2 : Output} → a ≡ b → Adds a p q o1 o2 → Adds b p q o1 o2
-said {a} {b} {p} {q} {o1} {o2} same adds = subst (λ (t : List ℕ). Adds t p q o1 o2) same adds
+pub said : {a b : List ℕ} {p q : Waiting} {o1 o2 : Output} → a ≡ b → AddsText a p q o1 o2 → AddsText b p q o1 o2
+said {a} {b} {p} {q} {o1} {o2} same adds = subst (λ (t : List ℕ). AddsText t p q o1 o2) same adds
 
 -- no text
-pub nothing : (p : Waiting) (o : Output) → Adds [] p p o o
+pub nothing : (p : Waiting) (o : Output) → AddsText [] p p o o
 nothing p o = record {
   more = λ start printed so_far. same_text p.failed start o printed (printed ++ []) p.bytes (sym (append-nil printed)) so_far;
 }
 
 -- bytes that wait with the others
-pub waits_too : (p : Waiting) (bytes : List ℕ) (o : Output) → Adds bytes p (record p { bytes = p.bytes ++ bytes }) o o
+pub waits_too : (p : Waiting) (bytes : List ℕ) (o : Output) → AddsText bytes p (record p { bytes = p.bytes ++ bytes }) o o
 waits_too p bytes o = record { more = by p.failed }
   where
     by : (failed : Bool) (start : Output) (printed : List ℕ) → PrintedSoFar failed start printed p.bytes o
@@ -53,14 +53,14 @@ waits_too p bytes o = record { more = by p.failed }
 
 -- of what waited a front was written, and the sink failed
 pub front_written : (p : Waiting) (text : List ℕ) (o1 o2 : Output) → p.failed ≡ false → text ≡ p.bytes → TookFront text o1 o2
-    → Adds [] p (record { bytes = []; failed = true }) o1 o2
+    → AddsText [] p (record { bytes = []; failed = true }) o1 o2
 front_written p text o1 o2 good same took =
     record { more = λ start printed so_far. by start printed (subst (λ (b : Bool). PrintedSoFar b start printed p.bytes o1) good so_far) }
   where
     part : List ℕ
     part = take took.count text
 
-    by : (start : Output) (printed : List ℕ) → IsUnderWay start printed p.bytes o1 → HasStopped start (printed ++ []) o2
+    by : (start : Output) (printed : List ℕ) → IsPartWritten start printed p.bytes o1 → HasStopped start (printed ++ []) o2
     by start printed so_far = record {
       front = so_far.front ++ part;
       rest = drop took.count text;
@@ -74,7 +74,7 @@ front_written p text o1 o2 good same took =
 pub record IsAddedUpTo {A : Type 0} (spell : List A → List ℕ) (left all : List A) (p q : Waiting) (o1 o2 : Output) : Type 0 where
   pub front : List A
   pub parts : all ≡ front ++ left
-  pub adds : Adds (spell front) p q o1 o2
+  pub adds : AddsText (spell front) p q o1 o2
 
 -- a spelling goes item by item
 abbrev pub GoesByItems : {A : Type 0} → (List A → List ℕ) → Type 0
@@ -82,7 +82,7 @@ GoesByItems {A} spell = (xs ys : List A) → spell (xs ++ ys) ≡ spell xs ++ sp
 
 -- some more were added
 pub more_added : {A : Type 0} {left all rest : List A} {p q r : Waiting} {o1 o2 o3 : Output} (spell : List A → List ℕ) → GoesByItems spell
-    → (piece : List A) → IsAddedUpTo spell left all p q o1 o2 → left ≡ piece ++ rest → Adds (spell piece) q r o2 o3
+    → (piece : List A) → IsAddedUpTo spell left all p q o1 o2 → left ≡ piece ++ rest → AddsText (spell piece) q r o2 o3
     → IsAddedUpTo spell rest all p r o1 o3
 more_added {A} {left} {all} {rest} {p} {q} {r} {o1} {o2} {o3} spell goes piece so_far cut added = record {
   front = so_far.front ++ piece;
@@ -92,7 +92,7 @@ more_added {A} {left} {all} {rest} {p} {q} {r} {o1} {o2} {o3} spell goes piece s
 
 -- none is left
 pub all_added : {A : Type 0} {left all : List A} {p q : Waiting} {o1 o2 : Output} (spell : List A → List ℕ) → left ≡ []
-    → IsAddedUpTo spell left all p q o1 o2 → Adds (spell all) p q o1 o2
+    → IsAddedUpTo spell left all p q o1 o2 → AddsText (spell all) p q o1 o2
 all_added {A} {left} {all} {p} {q} {o1} {o2} spell none so_far =
     said (sym (ap spell (so_far.parts ∙ ap (λ (l : List A). so_far.front ++ l) none ∙ append-nil so_far.front))) so_far.adds
 
@@ -106,16 +106,16 @@ as_they_are bytes = bytes
 
 -- one piece more was added, in the room that was made for it
 pub piece_added : {left all rest : List ℕ} {p q r s : Waiting} {o1 o2 o3 : Output} (piece : List ℕ) → IsAddedUpTo as_they_are left all p q o1 o2
-    → left ≡ piece ++ rest → Adds [] q r o2 o3 → s ≡ record r { bytes = r.bytes ++ piece } → IsAddedUpTo as_they_are rest all p s o1 o3
+    → left ≡ piece ++ rest → AddsText [] q r o2 o3 → s ≡ record r { bytes = r.bytes ++ piece } → IsAddedUpTo as_they_are rest all p s o1 o3
 piece_added {left} {all} {rest} {p} {q} {r} {s} {o1} {o2} {o3} piece so_far cut room kept =
-    more_added as_they_are (λ xs ys. refl) piece so_far cut (both room (subst (λ (v : Waiting). Adds piece r v o3 o3) (sym kept) (waits_too r piece o3)))
+    more_added as_they_are (λ xs ys. refl) piece so_far cut (both room (subst (λ (v : Waiting). AddsText piece r v o3 o3) (sym kept) (waits_too r piece o3)))
 
 -- the first text of a run, and what is printed then
-pub from_nothing : {text : List ℕ} {p q : Waiting} {o1 o2 : Output} → p ≡ record { bytes = []; failed = false } → Adds text p q o1 o2
+pub from_nothing : {text : List ℕ} {p q : Waiting} {o1 o2 : Output} → p ≡ record { bytes = []; failed = false } → AddsText text p q o1 o2
     → PrintedSoFar q.failed o1 text q.bytes o2
 from_nothing {text} {p} {q} {o1} {o2} fresh adds =
     let start : PrintedSoFar false o1 [] [] o1 = record { front = []; all = refl; written = sym (with_nothing o1.written); kept = refl } in
-    (subst (λ (v : Waiting). Adds text v q o1 o2) fresh adds).more o1 [] start
+    (subst (λ (v : Waiting). AddsText text v q o1 o2) fresh adds).more o1 [] start
 
 -- all that was printed, where the sink has failed
 pub stopped_in : (start now : Output) (text : List ℕ) → HasStopped start (text ++ []) now → TookFront text start now

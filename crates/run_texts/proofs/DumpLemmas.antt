@@ -4,7 +4,7 @@ use Rattle.read_facts.specs.declared.view.CollView.{CollView}
 use Rattle.read_facts.specs.declared.view.ValueView.{ValueView}
 use Rattle.run_texts.specs.declared.work_end.WorkEnd.{WorkEnd}
 use Rattle.run_texts.specs.Prelude.{as_text, hex_text, value_line, value_lines, header_lines, walk_lines, has_bad_view, last_lines, dump_text}
-use Rattle.run_texts.specs.Prelude.{Output, TookFront, Waiting, HasStopped, PrintedSoFar, Adds, DumpSoFar, nothing_dumped, AddsWalk}
+use Rattle.run_texts.specs.Prelude.{Output, TookFront, Waiting, HasStopped, PrintedSoFar, AddsText, DumpSoFar, nothing_dumped, AddsWalk}
 use Rattle.run_texts.proofs.Adding.{both, said, from_nothing, stopped_in}
 use Rattle.run_texts.proofs.TextLemmas.{as_text-append}
 
@@ -33,11 +33,11 @@ line_and_three line a b c =
 
 -- a walk and the last lines are the whole text
 pub whole_dump : {text rest : Waiting} {bad : Bool} {o1 o2 : Output} (colls : List CollView) (end : WorkEnd) (so_far : DumpSoFar) (start : Output)
-    → AddsWalk colls nothing_dumped so_far start o1 → text ≡ so_far.text → bad ≡ so_far.bad → Adds (as_text (last_lines bad end)) text rest o1 o2
+    → AddsWalk colls nothing_dumped so_far start o1 → text ≡ so_far.text → bad ≡ so_far.bad → AddsText (as_text (last_lines bad end)) text rest o1 o2
     → PrintedSoFar rest.failed start (dump_text colls end) rest.bytes o2
 whole_dump {text} {rest} {bad} {o1} {o2} colls end so_far start walked same noted last =
-    let lines : Adds (as_text (last_lines (has_bad_view colls) end)) so_far.text rest o1 o2 =
-    subst (λ (w : Waiting). Adds (as_text (last_lines (has_bad_view colls) end)) w rest o1 o2) same
+    let lines : AddsText (as_text (last_lines (has_bad_view colls) end)) so_far.text rest o1 o2 =
+    subst (λ (w : Waiting). AddsText (as_text (last_lines (has_bad_view colls) end)) w rest o1 o2) same
     (said (ap (λ (b : Bool). as_text (last_lines b end)) (noted ∙ walked.noted)) last) in
     from_nothing refl (said (sym (as_text-append (walk_lines colls) (last_lines (has_bad_view colls) end))) (both walked.adds lines))
 

@@ -9,7 +9,7 @@ use Rattle.std.proofs.lemmas.List.Concat.{flat_map-append}
 use Rattle.object_model.specs.declared.book.Entry.{Entry}
 use Rattle.object_model.specs.declared.book.Commit.{Commit}
 use Rattle.object_model.specs.Prelude.{is_acknowledged}
-use Rattle.run_texts.specs.Prelude.{as_text, entry_line, client_lines, clients_of, next_place, place_from, AreLinked, Output, Waiting, Adds}
+use Rattle.run_texts.specs.Prelude.{as_text, entry_line, client_lines, clients_of, next_place, client_place_from, AreLinked, Output, Waiting, AddsText}
 use Rattle.run_texts.proofs.TextLemmas.{as_text-append}
 use Rattle.run_texts.proofs.Adding.{both, said, nothing}
 
@@ -83,7 +83,7 @@ skipped commits client entries place (e ∷ es) is =
         ∙ (ap own other ∙ (ap (λ (l : List Entry). client_lines commits client (place + 1) l) (sym (one_behind entries place e es is)) ∙ later))
 
 -- from a place on, the lines are those from the next place of the client on
-from_next : (commits : List Commit) (client : ℕ) (entries : List Entry) (from place : ℕ) → place ≡ place_from (clients_of entries) client from
+from_next : (commits : List Commit) (client : ℕ) (entries : List Entry) (from place : ℕ) → place ≡ client_place_from (clients_of entries) client from
     → client_lines commits client from (drop from entries) ≡ client_lines commits client place (drop place entries)
 from_next commits client entries from place is =
     skipped commits client entries from (drop from entries) refl
@@ -91,7 +91,7 @@ from_next commits client entries from place is =
     (ap (λ (cs : List ℕ). next_place client from cs) (sym (clients-drop from entries)) ∙ sym is)
 
 -- the entry at that place is the client's
-own_at : (client : ℕ) (entries : List Entry) (from place : ℕ) → place ≡ place_from (clients_of entries) client from → place < length entries
+own_at : (client : ℕ) (entries : List Entry) (from place : ℕ) → place ≡ client_place_from (clients_of entries) client from → place < length entries
     → get_or (clients_of entries) place 64 ≡ client
 own_at client entries from place is within =
     let clients = clients_of entries in
@@ -103,13 +103,13 @@ own_at client entries from place is within =
 -- the lines of a client's entries before this place were added, and the entry there is the client's, where there is one
 pub record IsPushedUpTo (commits : List Commit) (client : ℕ) (entries : List Entry) (place : ℕ) (p q : Waiting) (o1 o2 : Output) : Type 0 where
   pub front : List ℕ
-  pub adds : Adds front p q o1 o2
+  pub adds : AddsText front p q o1 o2
   pub rest : as_text (client_lines commits client 0 entries) ≡ front ++ as_text (client_lines commits client place (drop place entries))
   pub own : place < length entries → get_or (clients_of entries) place 64 ≡ client
 
 -- at the first place none was
 pub none_pushed : (commits : List Commit) (client : ℕ) (entries : List Entry) (place : ℕ) (p : Waiting) (o : Output)
-    → place ≡ place_from (clients_of entries) client 0 → IsPushedUpTo commits client entries place p p o o
+    → place ≡ client_place_from (clients_of entries) client 0 → IsPushedUpTo commits client entries place p p o o
 none_pushed commits client entries place p o is = record {
   front = [];
   adds = nothing p o;
@@ -120,8 +120,8 @@ none_pushed commits client entries place p o is = record {
 -- one more was
 pub one_pushed : {p q r : Waiting} {o1 o2 o3 : Output} (commits : List Commit) (client : ℕ) (entries : List Entry) (place next : ℕ) (e : Entry)
     (acked : Bool) → IsPushedUpTo commits client entries place p q o1 o2 → place < length entries → e ≡ get_or entries place e
-    → acked ≡ is_acknowledged commits place → Adds (entry_line acked e ++ (10 ∷ [])) q r o2 o3
-    → next ≡ place_from (clients_of entries) client (place + 1) → IsPushedUpTo commits client entries next p r o1 o3
+    → acked ≡ is_acknowledged commits place → AddsText (entry_line acked e ++ (10 ∷ [])) q r o2 o3
+    → next ≡ client_place_from (clients_of entries) client (place + 1) → IsPushedUpTo commits client entries next p r o1 o3
 one_pushed {p} {q} {r} {o1} {o2} {o3} commits client entries place next e acked so_far within is acked_is added next_is =
     let line : List ℕ = entry_line acked e in
     let left : List Entry = drop (place + 1) entries in
@@ -145,7 +145,7 @@ one_pushed {p} {q} {r} {o1} {o2} {o3} commits client entries place next e acked 
 
 -- behind the last place all were
 pub all_pushed : {p q : Waiting} {o1 o2 : Output} (commits : List Commit) (client : ℕ) (entries : List Entry) (place : ℕ) → length entries ≤ place
-    → IsPushedUpTo commits client entries place p q o1 o2 → Adds (as_text (client_lines commits client 0 entries)) p q o1 o2
+    → IsPushedUpTo commits client entries place p q o1 o2 → AddsText (as_text (client_lines commits client 0 entries)) p q o1 o2
 all_pushed commits client entries place behind so_far =
     said (sym (so_far.rest
     ∙ (ap (λ (l : List Entry). so_far.front ++ as_text (client_lines commits client place l)) (drop_all place entries behind) ∙ append-nil so_far.front)))
@@ -179,30 +179,30 @@ abbrev Told : ℕ → ℕ → Type 0
 Told a b = (((a == b) ≡ true) × (a ≡ b)) ⊎ (((a == b) ≡ false) × (a ≢ b))
 
 -- a client's next place is here, at its own entry
-here_own : (clients : List ℕ) (place client : ℕ) → place < length clients → get_or clients place 64 ≡ client → place_from clients client place ≡ place
+here_own : (clients : List ℕ) (place client : ℕ) → place < length clients → get_or clients place 64 ≡ client → client_place_from clients client place ≡ place
 here_own clients place client within own =
     ap (λ (cs : List ℕ). next_place client place cs) (drop_more clients place 64 within)
     ∙ ap (λ (b : Bool). if b then place else next_place client (place + 1) (drop (place + 1) clients)) (eq-eqb (get_or clients place 64) client own)
 
 -- and it is behind another's entry
 here_other : (clients : List ℕ) (place client : ℕ) → place < length clients → (get_or clients place 64 == client) ≡ false
-    → place_from clients client place ≡ place_from clients client (place + 1)
+    → client_place_from clients client place ≡ client_place_from clients client (place + 1)
 here_other clients place client within other =
     ap (λ (cs : List ℕ). next_place client place cs) (drop_more clients place 64 within)
     ∙ ap (λ (b : Bool). if b then place else next_place client (place + 1) (drop (place + 1) clients)) other
 
 -- looking goes on behind an entry of another client
 pub passed_by : (clients : List ℕ) (place client from : ℕ) → place < length clients → get_or clients place 64 ≢ client
-    → place_from clients client place ≡ place_from clients client from → place_from clients client (place + 1) ≡ place_from clients client from
+    → client_place_from clients client place ≡ client_place_from clients client from → client_place_from clients client (place + 1) ≡ client_place_from clients client from
 passed_by clients place client from within other so_far = by (eqb_tells (get_or clients place 64) client)
   where
-    by : Told (get_or clients place 64) client → place_from clients client (place + 1) ≡ place_from clients client from
+    by : Told (get_or clients place 64) client → client_place_from clients client (place + 1) ≡ client_place_from clients client from
     by (inl same) = absurd (other same.1)
     by (inr told) = sym (here_other clients place client within told.0) ∙ so_far
 
 -- and ends at one of its own
 pub found_at : (clients : List ℕ) (place client from : ℕ) → place < length clients → get_or clients place 64 ≡ client
-    → place_from clients client place ≡ place_from clients client from → place ≡ place_from clients client from
+    → client_place_from clients client place ≡ client_place_from clients client from → place ≡ client_place_from clients client from
 found_at clients place client from within own so_far = sym (here_own clients place client within own) ∙ so_far
 
 -- behind the last entry there is none
@@ -236,13 +236,13 @@ other_linked clients first next from place client linked is within own many = re
   goes_on = λ at c least inside own_at below. go at c least inside own_at below (eqb_tells at place);
 }
   where
-    start : (c : ℕ) → c < 64 → Told (get_or clients place 64) c → get_or first c 0 ≡ place_from clients c place
+    start : (c : ℕ) → c < 64 → Told (get_or clients place 64) c → get_or first c 0 ≡ client_place_from clients c place
     start c below (inl same) = absurd (omega (arith, below, many, own, same.1))
     start c below (inr other) =
-        linked.starts c below ∙ (ap (λ (p : ℕ). place_from clients c p) is ∙ sym (here_other clients place c within other.0))
+        linked.starts c below ∙ (ap (λ (p : ℕ). client_place_from clients c p) is ∙ sym (here_other clients place c within other.0))
 
     go : (at c : ℕ) → place ≤ at → at < length clients → get_or clients at 64 ≡ c → c < 64 → Told at place
-        → get_or next at 0 ≡ place_from clients c (at + 1)
+        → get_or next at 0 ≡ client_place_from clients c (at + 1)
     go at c least inside own_at below (inl same) =
         let client_is : client ≡ c = own ∙ (ap (λ (k : ℕ). get_or clients k 64) (sym same.1) ∙ own_at) in
         absurd (omega (arith, below, many, client_is))

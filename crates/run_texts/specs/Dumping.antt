@@ -4,7 +4,7 @@ use Rattle.read_facts.specs.declared.view.CollView.{CollView}
 use Rattle.run_texts.specs.Texts.{as_text}
 use Rattle.run_texts.specs.DumpTexts.{walk_lines, has_bad_view}
 use Rattle.run_texts.specs.Printed.{Output}
-use Rattle.run_texts.specs.Printing.{Waiting, Adds}
+use Rattle.run_texts.specs.Printing.{Waiting, AddsText}
 
 -- the text, and whether some object in it has a bad unit
 pub record DumpSoFar : Type 0 where
@@ -16,7 +16,7 @@ nothing_dumped = record { text = record { bytes = []; failed = false }; bad = fa
 
 -- these lines were added, and it was noted whether they are of a bad unit
 pub record AddsLines (lines : List (List ℕ)) (bad : Bool) (before after : DumpSoFar) (old new : Output) : Type 0 where
-  pub adds : Adds (as_text lines) before.text after.text old new
+  pub adds : AddsText (as_text lines) before.text after.text old new
   pub noted : after.bad ≡ (before.bad || bad)
 
 -- so were the lines of a walk over these collections

@@ -10,7 +10,7 @@ pub record Waiting : Type 0 where
   pub failed : Bool
 
 -- from this output on, the sink has taken a front of the text, and the rest waits
-pub record IsUnderWay (start : Output) (text waiting : List ℕ) (now : Output) : Type 0 where
+pub record IsPartWritten (start : Output) (text waiting : List ℕ) (now : Output) : Type 0 where
   pub front : List ℕ
   pub all : text ≡ front ++ waiting
   pub written : now.written ≡ with_bytes start.written front
@@ -25,10 +25,10 @@ pub record HasStopped (start : Output) (text : List ℕ) (now : Output) : Type 0
   pub rose : Rose start.faults now.faults
 
 abbrev pub PrintedSoFar : Bool → Output → List ℕ → List ℕ → Output → Type 0
-PrintedSoFar false start text waiting now = IsUnderWay start text waiting now
+PrintedSoFar false start text waiting now = IsPartWritten start text waiting now
 PrintedSoFar true start text waiting now = HasStopped start text now
 
 -- this text was added to what was printed so far
-pub record Adds (text : List ℕ) (before after : Waiting) (old new : Output) : Type 0 where
+pub record AddsText (text : List ℕ) (before after : Waiting) (old new : Output) : Type 0 where
   pub more : (start : Output) (printed : List ℕ) → PrintedSoFar before.failed start printed before.bytes old
       → PrintedSoFar after.failed start (printed ++ text) after.bytes new

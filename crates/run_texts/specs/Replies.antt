@@ -6,6 +6,7 @@ use Rattle.object_model.specs.declared.op.Refusal.TheVariants.{NoCollection, Col
 use Rattle.object_model.specs.declared.op.Refusal.TheVariants.{SameObject, BadRange, TooBig}
 use Rattle.object_model.specs.declared.command.Command.{Command}
 use Rattle.object_model.specs.declared.command.Command.TheVariants as ask
+use Rattle.object_model.specs.declared.command.Read.TheVariants as reads
 use Rattle.object_model.specs.declared.command.Answer.{Answer}
 use Rattle.object_model.specs.declared.command.Answer.TheVariants as answer
 use Rattle.object_model.specs.declared.book.Entry.{Entry}
@@ -30,10 +31,10 @@ refusal_text TooBig = codes "E8 TooBig"
 
 -- what stands before the bytes that a command has read
 abbrev pub bytes_word : Command → List ℕ
-bytes_word (ask.Read c o off len) = codes "data "
-bytes_word (ask.GetAttr c o name) = codes "attr "
-bytes_word (ask.OmapGet c o key) = codes "omap "
-bytes_word (ask.OmapHeader c o) = codes "header "
+bytes_word (ask.Read (reads.Bytes c o off len)) = codes "data "
+bytes_word (ask.Read (reads.GetAttr c o name)) = codes "attr "
+bytes_word (ask.Read (reads.OmapGet c o key)) = codes "omap "
+bytes_word (ask.Read (reads.OmapHeader c o)) = codes "header "
 bytes_word command = []
 
 -- a unit holds bytes of another checksum than the one that is kept

@@ -16,16 +16,16 @@ next_place client place [] = place
 next_place client place (c ∷ cs) = if c == client then place else next_place client (place + 1) cs
 
 -- the first place of this client from this place on among all places
-abbrev pub place_from : List ℕ → ℕ → ℕ → ℕ
-place_from clients client place = next_place client place (drop place clients)
+abbrev pub client_place_from : List ℕ → ℕ → ℕ → ℕ
+client_place_from clients client place = next_place client place (drop place clients)
 
 -- the lists have the first place of each client from this place on, and for each of these places the next one of its client
 pub record AreLinked (clients : List ℕ) (from : ℕ) (first next : List ℕ) : Type 0 where
   pub all_clients : length first ≡ 64
   pub all_places : length next ≡ length clients
-  pub starts : (client : ℕ) → client < 64 → slice_index_or first client 0 ≡ place_from clients client from
+  pub starts : (client : ℕ) → client < 64 → slice_index_or first client 0 ≡ client_place_from clients client from
   pub goes_on : (place client : ℕ) → from ≤ place → place < length clients → slice_index_or clients place 64 ≡ client → client < 64
-      → slice_index_or next place 0 ≡ place_from clients client (place + 1)
+      → slice_index_or next place 0 ≡ client_place_from clients client (place + 1)
 
 -- the index says of each entry whether its commit is acknowledged, and where the next one of its client is
 pub record IsIndexOf (index : ReplyIndex) (commits : List Commit) (entries : List Entry) : Type 0 where

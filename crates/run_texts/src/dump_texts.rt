@@ -2,7 +2,7 @@
 ghost use Rattle.std.specs.Prelude.{◌≡◌, [], ◌∷◌, ◌++◌, codes};
 ghost use Rattle.script_text.specs.Prelude.{escaped};
 ghost use Rattle.run_texts.specs.Printed.{output};
-ghost use Rattle.run_texts.specs.Printing.{Adds};
+ghost use Rattle.run_texts.specs.Printing.{AddsText};
 ghost use Rattle.run_texts.specs.Texts.{as_text};
 ghost use Rattle.run_texts.specs.DumpTexts.{sum_text, view_line, value_line, value_lines, header_lines, object_lines, coll_lines, is_bad, last_lines};
 ghost use Rattle.run_texts.specs.Hex.{hex_sum};
@@ -19,7 +19,7 @@ use unit_fields::CollName;
 
 /// Adds the checksum of an object's bytes.
 fn push_crc<K: Sink>(text: &mut Printer, out: &mut K, crc: u32)
-    ensures { Adds (codes "crc " ++ hex_sum crc) text.old text.new
+    ensures { AddsText (codes "crc " ++ hex_sum crc) text.old text.new
         (output (K.written out.old) (K.faults out.old)) (output (K.written out.new) (K.faults out.new)) }
 {
     text.push_str(out, "crc ");
@@ -28,7 +28,7 @@ fn push_crc<K: Sink>(text: &mut Printer, out: &mut K, crc: u32)
 
 /// Adds the checksum of an object's bytes, or its first bad unit.
 fn push_sum<K: Sink>(text: &mut Printer, out: &mut K, sum: &Result<u32, BadSum>)
-    ensures { Adds (sum_text sum.now) text.old text.new
+    ensures { AddsText (sum_text sum.now) text.old text.new
         (output (K.written out.old) (K.faults out.old)) (output (K.written out.new) (K.faults out.new)) }
 {
     match sum {
@@ -39,7 +39,7 @@ fn push_sum<K: Sink>(text: &mut Printer, out: &mut K, sum: &Result<u32, BadSum>)
 
 /// Adds the line of an object's name, size and checksum.
 fn push_view<K: Sink>(text: &mut Printer, out: &mut K, view: &ObjectView)
-    ensures { Adds (view_line view.now ++ 10 ∷ []) text.old text.new
+    ensures { AddsText (view_line view.now ++ 10 ∷ []) text.old text.new
         (output (K.written out.old) (K.faults out.old)) (output (K.written out.new) (K.faults out.new)) }
 {
     text.push_str(out, "object ");
@@ -53,7 +53,7 @@ fn push_view<K: Sink>(text: &mut Printer, out: &mut K, view: &ObjectView)
 
 /// Adds the line of a value of an object, behind a word for its kind.
 fn push_value<K: Sink>(text: &mut Printer, out: &mut K, word: &str, view: &ValueView)
-    ensures { Adds (value_line word.now view.now ++ 10 ∷ []) text.old text.new
+    ensures { AddsText (value_line word.now view.now ++ 10 ∷ []) text.old text.new
         (output (K.written out.old) (K.faults out.old)) (output (K.written out.new) (K.faults out.new)) }
 {
     text.push_str(out, word);
@@ -65,7 +65,7 @@ fn push_value<K: Sink>(text: &mut Printer, out: &mut K, word: &str, view: &Value
 
 /// Adds the lines of an object's values of one kind.
 fn push_values<K: Sink>(text: &mut Printer, out: &mut K, word: &str, values: &[ValueView])
-    ensures { Adds (as_text (value_lines word.now values.now)) text.old text.new
+    ensures { AddsText (as_text (value_lines word.now values.now)) text.old text.new
         (output (K.written out.old) (K.faults out.old)) (output (K.written out.new) (K.faults out.new)) }
 {
     for value in values {
@@ -75,7 +75,7 @@ fn push_values<K: Sink>(text: &mut Printer, out: &mut K, word: &str, values: &[V
 
 /// Adds the line of an omap's header, unless it is empty.
 fn push_header<K: Sink>(text: &mut Printer, out: &mut K, header: &[u8])
-    ensures { Adds (as_text (header_lines header.now)) text.old text.new
+    ensures { AddsText (as_text (header_lines header.now)) text.old text.new
         (output (K.written out.old) (K.faults out.old)) (output (K.written out.new) (K.faults out.new)) }
 {
     if header.is_empty() {
@@ -88,7 +88,7 @@ fn push_header<K: Sink>(text: &mut Printer, out: &mut K, header: &[u8])
 
 /// Adds the lines of an object: its own, and those of its values.
 pub fn push_object<K: Sink>(text: &mut Printer, out: &mut K, view: &ObjectView)
-    ensures { Adds (as_text (object_lines view.now)) text.old text.new
+    ensures { AddsText (as_text (object_lines view.now)) text.old text.new
         (output (K.written out.old) (K.faults out.old)) (output (K.written out.new) (K.faults out.new)) }
 {
     push_view(text, out, view);
@@ -99,7 +99,7 @@ pub fn push_object<K: Sink>(text: &mut Printer, out: &mut K, view: &ObjectView)
 
 /// Adds the line of a collection.
 pub fn push_coll<K: Sink>(text: &mut Printer, out: &mut K, coll: &CollName)
-    ensures { Adds (as_text (coll_lines (record { coll = coll.now; objects = [] }))) text.old text.new
+    ensures { AddsText (as_text (coll_lines (record { coll = coll.now; objects = [] }))) text.old text.new
         (output (K.written out.old) (K.faults out.old)) (output (K.written out.new) (K.faults out.new)) }
 {
     text.push_str(out, "coll ");
@@ -116,7 +116,7 @@ pub fn is_bad(sum: &Result<u32, BadSum>) -> bool
 
 /// Adds the lines behind those of objects, for a run that has met a bad unit, or not.
 pub fn push_last<K: Sink>(text: &mut Printer, out: &mut K, bad: bool, end: &WorkEnd)
-    ensures { Adds (as_text (last_lines bad end.now)) text.old text.new
+    ensures { AddsText (as_text (last_lines bad end.now)) text.old text.new
         (output (K.written out.old) (K.faults out.old)) (output (K.written out.new) (K.faults out.new)) }
 {
     match end {

@@ -1,7 +1,7 @@
 //! The text of `fsck`.
 ghost use Rattle.std.specs.Prelude.{◌≡◌, ◌∷◌, ◌++◌, [], codes, decimal};
 ghost use Rattle.run_texts.specs.Printed.{output};
-ghost use Rattle.run_texts.specs.Printing.{Adds};
+ghost use Rattle.run_texts.specs.Printing.{AddsText};
 ghost use Rattle.run_texts.specs.Texts.{as_text};
 ghost use Rattle.run_texts.specs.Hex.{hex_text, hex_sum};
 ghost use Rattle.run_texts.specs.FsckTexts.{finding_line, finding_lines, count_line};
@@ -13,7 +13,7 @@ use findings::Finding;
 
 /// Adds the key of a bad row.
 fn push_key<K: Sink>(text: &mut Printer, out: &mut K, key: &[u8])
-    ensures { Adds (codes "BadRow key=" ++ hex_text key.now) text.old text.new
+    ensures { AddsText (codes "BadRow key=" ++ hex_text key.now) text.old text.new
         (output (K.written out.old) (K.faults out.old)) (output (K.written out.new) (K.faults out.new)) }
 {
     text.push_str(out, "BadRow key=");
@@ -22,7 +22,7 @@ fn push_key<K: Sink>(text: &mut Printer, out: &mut K, key: &[u8])
 
 /// Adds a unit with the checksum that is kept for a page on it, and that of its bytes.
 fn push_sums<K: Sink>(text: &mut Printer, out: &mut K, unit: u32, kept: u32, found: u32)
-    ensures { Adds (codes "BadSum unit=" ++ decimal unit ++ codes " kept=" ++ hex_sum kept ++ codes " found=" ++ hex_sum found) text.old text.new
+    ensures { AddsText (codes "BadSum unit=" ++ decimal unit ++ codes " kept=" ++ hex_sum kept ++ codes " found=" ++ hex_sum found) text.old text.new
         (output (K.written out.old) (K.faults out.old)) (output (K.written out.new) (K.faults out.new)) }
 {
     text.push_str(out, "BadSum unit=");
@@ -35,7 +35,7 @@ fn push_sums<K: Sink>(text: &mut Printer, out: &mut K, unit: u32, kept: u32, fou
 
 /// Adds a unit behind words for what is wrong with it.
 fn push_unit<K: Sink>(text: &mut Printer, out: &mut K, words: &str, unit: u32)
-    ensures { Adds (words.now ++ decimal unit) text.old text.new
+    ensures { AddsText (words.now ++ decimal unit) text.old text.new
         (output (K.written out.old) (K.faults out.old)) (output (K.written out.new) (K.faults out.new)) }
 {
     text.push_str(out, words);
@@ -44,7 +44,7 @@ fn push_unit<K: Sink>(text: &mut Printer, out: &mut K, words: &str, unit: u32)
 
 /// Adds what a finding says.
 fn push_words<K: Sink>(text: &mut Printer, out: &mut K, finding: &Finding)
-    ensures { Adds (finding_line finding.now) text.old text.new
+    ensures { AddsText (finding_line finding.now) text.old text.new
         (output (K.written out.old) (K.faults out.old)) (output (K.written out.new) (K.faults out.new)) }
 {
     match finding {
@@ -58,7 +58,7 @@ fn push_words<K: Sink>(text: &mut Printer, out: &mut K, finding: &Finding)
 
 /// Adds the line of a finding.
 fn push_finding<K: Sink>(text: &mut Printer, out: &mut K, finding: &Finding)
-    ensures { Adds (finding_line finding.now ++ 10 ∷ []) text.old text.new
+    ensures { AddsText (finding_line finding.now ++ 10 ∷ []) text.old text.new
         (output (K.written out.old) (K.faults out.old)) (output (K.written out.new) (K.faults out.new)) }
 {
     push_words(text, out, finding);
@@ -67,7 +67,7 @@ fn push_finding<K: Sink>(text: &mut Printer, out: &mut K, finding: &Finding)
 
 /// Adds the lines of findings.
 pub fn push_findings<K: Sink>(text: &mut Printer, out: &mut K, found: &[Finding])
-    ensures { Adds (as_text (finding_lines found.now)) text.old text.new
+    ensures { AddsText (as_text (finding_lines found.now)) text.old text.new
         (output (K.written out.old) (K.faults out.old)) (output (K.written out.new) (K.faults out.new)) }
 {
     for finding in found {
@@ -77,7 +77,7 @@ pub fn push_findings<K: Sink>(text: &mut Printer, out: &mut K, found: &[Finding]
 
 /// Adds how many findings there are.
 pub fn push_count<K: Sink>(text: &mut Printer, out: &mut K, count: u64)
-    ensures { Adds (as_text (count_line count ∷ [])) text.old text.new
+    ensures { AddsText (as_text (count_line count ∷ [])) text.old text.new
         (output (K.written out.old) (K.faults out.old)) (output (K.written out.new) (K.faults out.new)) }
 {
     text.push_str(out, "findings ");

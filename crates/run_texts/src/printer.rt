@@ -6,7 +6,7 @@
 //! run whose memory has ended still says what it has.
 ghost use Rattle.std.specs.Prelude.{◌≡◌, ◌+◌, ◌<◌, ◌≤◌, [], ◌++◌, ℕ, List, false, MatchResult, OnOk, OnErr, length, decimal};
 ghost use Rattle.run_texts.specs.Printed.{Output, output, TookAll, TookFront};
-ghost use Rattle.run_texts.specs.Printing.{Adds, PrintedSoFar};
+ghost use Rattle.run_texts.specs.Printing.{AddsText, PrintedSoFar};
 
 use arrayvec::ArrayVec;
 use end_points::{Fault, Sink};
@@ -65,7 +65,7 @@ impl Printer {
 
     /// Writes what waits, and says whether the sink has failed at it or before.
     fn write_waiting<K: Sink>(&self, out: &mut K) -> bool
-        ensures { Adds [] self.now (record { bytes = []; failed = result })
+        ensures { AddsText [] self.now (record { bytes = []; failed = result })
             (output (K.written out.old) (K.faults out.old)) (output (K.written out.new) (K.faults out.new)) }
     {
         if self.failed {
@@ -79,7 +79,7 @@ impl Printer {
 
     /// Writes what waits, and drops it where the sink fails or has failed.
     fn pass_on<K: Sink>(&mut self, out: &mut K)
-        ensures adds { Adds [] self.old self.new (output (K.written out.old) (K.faults out.old)) (output (K.written out.new) (K.faults out.new)) }
+        ensures adds { AddsText [] self.old self.new (output (K.written out.old) (K.faults out.old)) (output (K.written out.new) (K.faults out.new)) }
         ensures empty { self.new.bytes ≡ [] }
     {
         self.failed = self.write_waiting(out);
@@ -88,7 +88,7 @@ impl Printer {
 
     /// Makes room for a byte at least, and says for how many there is room.
     fn make_room<K: Sink>(&mut self, out: &mut K) -> usize
-        ensures adds { Adds [] self.old self.new (output (K.written out.old) (K.faults out.old)) (output (K.written out.new) (K.faults out.new)) }
+        ensures adds { AddsText [] self.old self.new (output (K.written out.old) (K.faults out.old)) (output (K.written out.new) (K.faults out.new)) }
         ensures some { 0 < result }
         ensures room { result + length self.new.bytes ≡ 16384 }
     {
@@ -111,7 +111,7 @@ impl Printer {
 
     /// Adds bytes.
     pub fn push<K: Sink>(&mut self, out: &mut K, bytes: &[u8])
-        ensures { Adds bytes.now self.old self.new (output (K.written out.old) (K.faults out.old)) (output (K.written out.new) (K.faults out.new)) }
+        ensures { AddsText bytes.now self.old self.new (output (K.written out.old) (K.faults out.old)) (output (K.written out.new) (K.faults out.new)) }
     {
         let mut left = bytes;
         'pieces: while !left.is_empty() {
@@ -124,14 +124,14 @@ impl Printer {
 
     /// Adds a text.
     pub fn push_str<K: Sink>(&mut self, out: &mut K, text: &str)
-        ensures { Adds text.now self.old self.new (output (K.written out.old) (K.faults out.old)) (output (K.written out.new) (K.faults out.new)) }
+        ensures { AddsText text.now self.old self.new (output (K.written out.old) (K.faults out.old)) (output (K.written out.new) (K.faults out.new)) }
     {
         self.push(out, text.as_bytes());
     }
 
     /// Adds a number in decimal.
     pub fn push_number<K: Sink>(&mut self, out: &mut K, number: u64)
-        ensures { Adds (decimal number) self.old self.new (output (K.written out.old) (K.faults out.old)) (output (K.written out.new) (K.faults out.new)) }
+        ensures { AddsText (decimal number) self.old self.new (output (K.written out.old) (K.faults out.old)) (output (K.written out.new) (K.faults out.new)) }
     {
         let mut digits = Buffer::new();
         self.push_str(out, digits.format(number));

@@ -3,7 +3,7 @@ ghost use Rattle.std.specs.Prelude.{◌≡◌, ◌<◌, [], ◌∷◌, ◌++◌,
 ghost use Rattle.run_texts.specs.Texts.{as_text};
 ghost use Rattle.run_texts.specs.Hex.{hex_or_dash, hex_sum};
 ghost use Rattle.run_texts.specs.Printed.{output};
-ghost use Rattle.run_texts.specs.Printing.{Adds};
+ghost use Rattle.run_texts.specs.Printing.{AddsText};
 ghost use Rattle.run_texts.specs.Replies.{refusal_text, bytes_word, csum_text, names_text, reply_text, entry_line, client_lines, reply_lines};
 ghost use Rattle.run_texts.specs.ReplyIndex.{IsIndexOf};
 ghost use Rattle.run_texts.specs.Replies.{is_accepted, counts_as_refused, is_csum, is_read, is_of, has_csum, answers_of, done_line};
@@ -14,7 +14,7 @@ use crate::printer::Printer;
 use crate::reply_index::{CLIENTS, ReplyIndex, first_place, is_acked_at, place_behind};
 use byte_maps::Bytes;
 use end_points::Sink;
-use object_model::{Answer, Asked, Book, CommandKind, Entry, Refusal};
+use object_model::{Answer, Asked, Book, Entry, ReadKind, Refusal};
 use std::alloc::Global;
 use unit_fields::UnitNo;
 
@@ -37,18 +37,18 @@ fn refusal_text(refusal: Refusal) -> &'static str
 fn bytes_word(command: &Asked) -> &'static str
     ensures { result.now ≡ bytes_word command.now }
 {
-    match command.kind() {
-        CommandKind::Read => "data ",
-        CommandKind::GetAttr => "attr ",
-        CommandKind::OmapGet => "omap ",
-        CommandKind::OmapHeader => "header ",
+    match command.read_kind() {
+        Some(ReadKind::Bytes) => "data ",
+        Some(ReadKind::GetAttr) => "attr ",
+        Some(ReadKind::OmapGet) => "omap ",
+        Some(ReadKind::OmapHeader) => "header ",
         _ => "",
     }
 }
 
 /// Adds the reply that names a unit with another checksum than the one that is kept for it. Lines of `dump` have it too.
 pub fn push_csum<K: Sink>(text: &mut Printer, out: &mut K, unit: UnitNo, kept: u32, found: u32)
-    ensures { Adds (csum_text unit kept found) text.old text.new
+    ensures { AddsText (csum_text unit kept found) text.old text.new
         (output (K.written out.old) (K.faults out.old)) (output (K.written out.new) (K.faults out.new)) }
 {
     text.push_str(out, "E14 Csum unit=");
@@ -61,7 +61,7 @@ pub fn push_csum<K: Sink>(text: &mut Printer, out: &mut K, unit: UnitNo, kept: u
 
 /// Adds the bytes that a command has read.
 fn push_bytes<K: Sink>(text: &mut Printer, out: &mut K, command: &Asked, bytes: &[u8])
-    ensures { Adds (bytes_word command.now ++ hex_or_dash bytes.now) text.old text.new
+    ensures { AddsText (bytes_word command.now ++ hex_or_dash bytes.now) text.old text.new
         (output (K.written out.old) (K.faults out.old)) (output (K.written out.new) (K.faults out.new)) }
 {
     text.push_str(out, bytes_word(command));
@@ -70,7 +70,7 @@ fn push_bytes<K: Sink>(text: &mut Printer, out: &mut K, command: &Asked, bytes: 
 
 /// Adds an object's size and the checksum of its bytes.
 fn push_sum<K: Sink>(text: &mut Printer, out: &mut K, size: u64, crc: u32)
-    ensures { Adds (codes "sum " ++ decimal size ++ codes " " ++ hex_sum crc) text.old text.new
+    ensures { AddsText (codes "sum " ++ decimal size ++ codes " " ++ hex_sum crc) text.old text.new
         (output (K.written out.old) (K.faults out.old)) (output (K.written out.new) (K.faults out.new)) }
 {
     text.push_str(out, "sum ");
@@ -81,7 +81,7 @@ fn push_sum<K: Sink>(text: &mut Printer, out: &mut K, size: u64, crc: u32)
 
 /// Adds names, each behind a space.
 fn push_names<K: Sink>(text: &mut Printer, out: &mut K, names: &[Bytes])
-    ensures { Adds (names_text names.now) text.old text.new
+    ensures { AddsText (names_text names.now) text.old text.new
         (output (K.written out.old) (K.faults out.old)) (output (K.written out.new) (K.faults out.new)) }
 {
     for name in names {
@@ -92,7 +92,7 @@ fn push_names<K: Sink>(text: &mut Printer, out: &mut K, names: &[Bytes])
 
 /// Adds a reply with two numbers, each behind its word.
 fn push_two<K: Sink>(text: &mut Printer, out: &mut K, first: &str, a: u32, second: &str, b: u32)
-    ensures { Adds (first.now ++ decimal a ++ second.now ++ decimal b) text.old text.new
+    ensures { AddsText (first.now ++ decimal a ++ second.now ++ decimal b) text.old text.new
         (output (K.written out.old) (K.faults out.old)) (output (K.written out.new) (K.faults out.new)) }
 {
     text.push_str(out, first);
@@ -103,7 +103,7 @@ fn push_two<K: Sink>(text: &mut Printer, out: &mut K, first: &str, a: u32, secon
 
 /// Adds an object's size.
 fn push_size<K: Sink>(text: &mut Printer, out: &mut K, size: u64)
-    ensures { Adds (codes "size " ++ decimal size) text.old text.new
+    ensures { AddsText (codes "size " ++ decimal size) text.old text.new
         (output (K.written out.old) (K.faults out.old)) (output (K.written out.new) (K.faults out.new)) }
 {
     text.push_str(out, "size ");
@@ -112,7 +112,7 @@ fn push_size<K: Sink>(text: &mut Printer, out: &mut K, size: u64)
 
 /// Adds the names of a collection's objects.
 fn push_objects<K: Sink>(text: &mut Printer, out: &mut K, names: &[Bytes])
-    ensures { Adds (codes "objects" ++ names_text names.now) text.old text.new
+    ensures { AddsText (codes "objects" ++ names_text names.now) text.old text.new
         (output (K.written out.old) (K.faults out.old)) (output (K.written out.new) (K.faults out.new)) }
 {
     text.push_str(out, "objects");
@@ -121,7 +121,7 @@ fn push_objects<K: Sink>(text: &mut Printer, out: &mut K, names: &[Bytes])
 
 /// Adds the reply to the entry's command, whose commit is acknowledged, or not.
 fn push_reply<K: Sink>(text: &mut Printer, out: &mut K, acked: bool, entry: &Entry)
-    ensures { Adds (reply_text acked entry.now.command entry.now.answer) text.old text.new
+    ensures { AddsText (reply_text acked entry.now.command entry.now.answer) text.old text.new
         (output (K.written out.old) (K.faults out.old)) (output (K.written out.new) (K.faults out.new)) }
 {
     match &entry.answer {
@@ -154,7 +154,7 @@ fn push_reply<K: Sink>(text: &mut Printer, out: &mut K, acked: bool, entry: &Ent
 
 /// Adds the line of an entry whose commit is acknowledged, or not.
 fn push_entry<K: Sink>(text: &mut Printer, out: &mut K, acked: bool, entry: &Entry)
-    ensures { Adds (entry_line acked entry.now ++ 10 ∷ []) text.old text.new
+    ensures { AddsText (entry_line acked entry.now ++ 10 ∷ []) text.old text.new
         (output (K.written out.old) (K.faults out.old)) (output (K.written out.new) (K.faults out.new)) }
 {
     text.push_number(out, entry.client as u64);
@@ -175,7 +175,7 @@ fn push_client<K: Sink>(
 )
     requires client { client < 64 }
     requires index { IfSome index.now (λ index. IsIndexOf index book.now.commits book.now.entries) }
-    ensures { Adds (as_text (client_lines book.now.commits client 0 book.now.entries)) text.old text.new
+    ensures { AddsText (as_text (client_lines book.now.commits client 0 book.now.entries)) text.old text.new
         (output (K.written out.old) (K.faults out.old)) (output (K.written out.new) (K.faults out.new)) }
 {
     let entries = book.entries.as_slice();
@@ -190,7 +190,7 @@ fn push_client<K: Sink>(
 /// Adds the lines of the book's entries, client by client. Where the entries of each client are, and which of them are
 /// acknowledged, is noted beforehand; where there is no memory for that it is looked for.
 pub fn push_replies<K: Sink>(alloc: Global, text: &mut Printer, out: &mut K, book: &Book)
-    ensures { Adds (as_text (reply_lines book.now)) text.old text.new
+    ensures { AddsText (as_text (reply_lines book.now)) text.old text.new
         (output (K.written out.old) (K.faults out.old)) (output (K.written out.new) (K.faults out.new)) }
 {
     let index = ReplyIndex::of(alloc, book.commits.as_slice(), book.entries.as_slice()).ok();
@@ -274,7 +274,7 @@ fn count(kind: Kind, entries: &[Entry]) -> usize
 
 /// Adds the last line of a run whose work was done, with so many units free at its end.
 pub fn push_done<K: Sink>(text: &mut Printer, out: &mut K, book: &Book, free: u32)
-    ensures { Adds (as_text (done_line book.now free ∷ [])) text.old text.new
+    ensures { AddsText (as_text (done_line book.now free ∷ [])) text.old text.new
         (output (K.written out.old) (K.faults out.old)) (output (K.written out.new) (K.faults out.new)) }
 {
     let entries = book.entries.as_slice();

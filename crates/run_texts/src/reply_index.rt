@@ -1,7 +1,7 @@
 //! Where the entries of each client are among those of a book, and which of them are acknowledged.
 ghost use Rattle.std.specs.Prelude.{◌≡◌, ℕ, ◌+◌, ◌<◌, ◌≤◌, false, length, slice_index_or, IfOk, IfSome};
 ghost use Rattle.object_model.specs.Prelude.{is_acknowledged};
-ghost use Rattle.run_texts.specs.ReplyIndex.{clients_of, place_from, AreLinked, IsIndexOf};
+ghost use Rattle.run_texts.specs.ReplyIndex.{clients_of, client_place_from, AreLinked, IsIndexOf};
 
 use object_model::{Commit, Entry};
 use std::alloc::{AllocError, Global};
@@ -91,7 +91,7 @@ pub fn is_acked_at(commits: &[Commit], index: &Option<ReplyIndex>, place: usize)
 /// The first place with an entry of this client from this place on, or the number of entries: looked for.
 fn find_place(entries: &[Entry], client: usize, from: usize) -> usize
     requires { from ≤ length entries.now }
-    ensures { result ≡ place_from (clients_of entries.now) client from }
+    ensures { result ≡ client_place_from (clients_of entries.now) client from }
 {
     for place in from..entries.len() {
         if entries[place].client as usize == client {
@@ -105,7 +105,7 @@ fn find_place(entries: &[Entry], client: usize, from: usize) -> usize
 pub fn first_place(entries: &[Entry], index: &Option<ReplyIndex>, client: usize) -> usize
     requires client { client < 64 }
     requires index { IfSome index.now (λ index. AreLinked (clients_of entries.now) 0 index.first index.next.items) }
-    ensures { result ≡ place_from (clients_of entries.now) client 0 }
+    ensures { result ≡ client_place_from (clients_of entries.now) client 0 }
 {
     match index {
         Some(index) => index.first[client],
@@ -124,7 +124,7 @@ pub fn place_behind(
     requires place { place < length entries.now }
     requires own { slice_index_or (clients_of entries.now) place 64 ≡ client }
     requires index { IfSome index.now (λ index. AreLinked (clients_of entries.now) 0 index.first index.next.items) }
-    ensures { result ≡ place_from (clients_of entries.now) client (place + 1) }
+    ensures { result ≡ client_place_from (clients_of entries.now) client (place + 1) }
 {
     match index {
         Some(index) => index.next[place],

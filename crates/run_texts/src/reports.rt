@@ -3,7 +3,7 @@ ghost use Rattle.std.specs.Prelude.{◌≡◌, ◌+◌, ◌*◌, ◌≤◌, [], 
 ghost use Rattle.run_texts.specs.Status.{number, end_number};
 ghost use Rattle.run_texts.specs.Texts.{mkfs_text};
 ghost use Rattle.run_texts.specs.Printed.{Output, output, Printed};
-ghost use Rattle.run_texts.specs.Printing.{Adds, PrintedSoFar};
+ghost use Rattle.run_texts.specs.Printing.{AddsText, PrintedSoFar};
 ghost use Rattle.run_texts.specs.StepTexts.{end_status};
 ghost use Rattle.run_texts.specs.FsckTexts.{fsck_text, fsck_number};
 ghost use Rattle.run_texts.specs.Reports.{ReportsMkfs, ReportsStep, ReportsFsck, ReportsStop, ShowedUsage};
@@ -45,7 +45,7 @@ pub fn print_rest<K: Sink>(text: Printer, out: &mut K, status: Status) -> Status
 fn push_mkfs<K: Sink>(text: &mut Printer, out: &mut K, half: u32, units: u32, stop: Option<Stop>)
     requires half { half ≤ 65536 }
     requires units { stop ≡ None → 2 * half + 3 ≤ units }
-    ensures { Adds (mkfs_text half units stop) text.old text.new
+    ensures { AddsText (mkfs_text half units stop) text.old text.new
         (output (K.written out.old) (K.faults out.old)) (output (K.written out.new) (K.faults out.new)) }
 {
     match stop {
@@ -101,7 +101,7 @@ pub fn report_stop<K: Sink>(stop: Stop, out: &mut K) -> Status
 
 /// Adds the text of a run of `fsck`.
 fn push_fsck<K: Sink>(text: &mut Printer, out: &mut K, ended: &Result<Items<Finding>, WorkEnd>)
-    ensures { Adds (fsck_text ended.now) text.old text.new
+    ensures { AddsText (fsck_text ended.now) text.old text.new
         (output (K.written out.old) (K.faults out.old)) (output (K.written out.new) (K.faults out.new)) }
 {
     match ended {

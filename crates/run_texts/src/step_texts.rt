@@ -2,7 +2,7 @@
 ghost use Rattle.std.specs.Prelude.{◌≡◌, ◌∷◌, [], codes};
 ghost use Rattle.run_texts.specs.declared.status.Stop.TheVariants.{Refused, BadScript};
 ghost use Rattle.run_texts.specs.Printed.{output};
-ghost use Rattle.run_texts.specs.Printing.{Adds};
+ghost use Rattle.run_texts.specs.Printing.{AddsText};
 ghost use Rattle.run_texts.specs.Texts.{as_text, stopped_line};
 ghost use Rattle.run_texts.specs.StepTexts.{script_line, bad_row_line, not_exact_line, first_cause, fail_lines, end_lines, step_text};
 
@@ -24,7 +24,7 @@ fn first_cause(bad: bool, why: Stop) -> Stop
 
 /// Adds the lines of a run in which the script of this number has a bad line, the first of this number.
 fn push_bad_line<K: Sink>(text: &mut Printer, out: &mut K, script: u32, line: u32)
-    ensures { Adds (as_text (script_line script line ∷ stopped_line BadScript ∷ [])) text.old text.new
+    ensures { AddsText (as_text (script_line script line ∷ stopped_line BadScript ∷ [])) text.old text.new
         (output (K.written out.old) (K.faults out.old)) (output (K.written out.new) (K.faults out.new)) }
 {
     text.push_str(out, "script ");
@@ -37,7 +37,7 @@ fn push_bad_line<K: Sink>(text: &mut Printer, out: &mut K, script: u32, line: u3
 
 /// Adds the lines of a run that found no store it could open, for this.
 fn push_no_store<K: Sink>(text: &mut Printer, out: &mut K, why: &str)
-    ensures { Adds (as_text (why.now ∷ stopped_line Refused ∷ [])) text.old text.new
+    ensures { AddsText (as_text (why.now ∷ stopped_line Refused ∷ [])) text.old text.new
         (output (K.written out.old) (K.faults out.old)) (output (K.written out.new) (K.faults out.new)) }
 {
     text.push_str(out, why);
@@ -47,7 +47,7 @@ fn push_no_store<K: Sink>(text: &mut Printer, out: &mut K, why: &str)
 
 /// Adds the lines of a run that found a bad row under this key.
 fn push_bad_row<K: Sink>(text: &mut Printer, out: &mut K, key: &[u8])
-    ensures { Adds (as_text (bad_row_line key.now ∷ stopped_line Refused ∷ [])) text.old text.new
+    ensures { AddsText (as_text (bad_row_line key.now ∷ stopped_line Refused ∷ [])) text.old text.new
         (output (K.written out.old) (K.faults out.old)) (output (K.written out.new) (K.faults out.new)) }
 {
     text.push_str(out, "mount BadRow ");
@@ -58,7 +58,7 @@ fn push_bad_row<K: Sink>(text: &mut Printer, out: &mut K, key: &[u8])
 
 /// Adds the lines of a run that found this unit without one owner and a mark.
 fn push_not_exact<K: Sink>(text: &mut Printer, out: &mut K, unit: u32)
-    ensures { Adds (as_text (not_exact_line unit ∷ stopped_line Refused ∷ [])) text.old text.new
+    ensures { AddsText (as_text (not_exact_line unit ∷ stopped_line Refused ∷ [])) text.old text.new
         (output (K.written out.old) (K.faults out.old)) (output (K.written out.new) (K.faults out.new)) }
 {
     text.push_str(out, "mount NotExact unit=");
@@ -70,7 +70,7 @@ fn push_not_exact<K: Sink>(text: &mut Printer, out: &mut K, unit: u32)
 /// Adds the last lines of a run that stopped before its work was done, and that has met a bad unit, or not: nothing, if it
 /// was done or the sink has failed.
 pub fn push_fail<K: Sink>(text: &mut Printer, out: &mut K, bad: bool, end: &WorkEnd)
-    ensures { Adds (as_text (fail_lines bad end.now)) text.old text.new
+    ensures { AddsText (as_text (fail_lines bad end.now)) text.old text.new
         (output (K.written out.old) (K.faults out.old)) (output (K.written out.new) (K.faults out.new)) }
 {
     match end {
@@ -89,7 +89,7 @@ pub fn push_fail<K: Sink>(text: &mut Printer, out: &mut K, bad: bool, end: &Work
 
 /// Adds the lines behind the replies.
 fn push_end<K: Sink>(text: &mut Printer, out: &mut K, book: &Book, end: &WorkEnd)
-    ensures { Adds (as_text (end_lines book.now end.now)) text.old text.new
+    ensures { AddsText (as_text (end_lines book.now end.now)) text.old text.new
         (output (K.written out.old) (K.faults out.old)) (output (K.written out.new) (K.faults out.new)) }
 {
     match end {
@@ -106,7 +106,7 @@ pub fn push_step<K: Sink>(
     book: &Book,
     end: &WorkEnd,
 )
-    ensures { Adds (step_text book.now end.now) text.old text.new
+    ensures { AddsText (step_text book.now end.now) text.old text.new
         (output (K.written out.old) (K.faults out.old)) (output (K.written out.new) (K.faults out.new)) }
 {
     push_replies(alloc, text, out, book);

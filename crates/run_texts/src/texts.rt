@@ -1,7 +1,7 @@
 //! The texts of `mkfs`, and the last line of a run that stopped.
 ghost use Rattle.std.specs.Prelude.{◌≡◌, ◌+◌, ◌*◌, ◌≤◌, ◌∷◌, []};
 ghost use Rattle.run_texts.specs.Printed.{output};
-ghost use Rattle.run_texts.specs.Printing.{Adds};
+ghost use Rattle.run_texts.specs.Printing.{AddsText};
 ghost use Rattle.run_texts.specs.Texts.{as_text, made_line, too_small_line, stopped_line};
 ghost use Rattle.run_texts.specs.declared.status.Stop.TheVariants.{Refused};
 
@@ -13,7 +13,7 @@ use end_points::Sink;
 pub fn push_made<K: Sink>(text: &mut Printer, out: &mut K, half: u32, units: u32)
     requires half { half ≤ 65536 }
     requires room { 2 * half + 3 ≤ units }
-    ensures { Adds (as_text (made_line half units ∷ [])) text.old text.new
+    ensures { AddsText (as_text (made_line half units ∷ [])) text.old text.new
         (output (K.written out.old) (K.faults out.old)) (output (K.written out.new) (K.faults out.new)) }
 {
     text.push_str(out, "mkfs units=");
@@ -28,7 +28,7 @@ pub fn push_made<K: Sink>(text: &mut Printer, out: &mut K, half: u32, units: u32
 /// Adds what a run prints where the device has too few units.
 pub fn push_too_small<K: Sink>(text: &mut Printer, out: &mut K, half: u32, units: u32)
     requires { half ≤ 65536 }
-    ensures { Adds (as_text (too_small_line half units ∷ stopped_line Refused ∷ [])) text.old text.new
+    ensures { AddsText (as_text (too_small_line half units ∷ stopped_line Refused ∷ [])) text.old text.new
         (output (K.written out.old) (K.faults out.old)) (output (K.written out.new) (K.faults out.new)) }
 {
     text.push_str(out, "mkfs TooSmall units=");
@@ -54,7 +54,7 @@ fn stopped_text(stop: Stop) -> &'static str
 
 /// Adds the last line of a run that stopped.
 pub fn push_stopped<K: Sink>(text: &mut Printer, out: &mut K, stop: Stop)
-    ensures { Adds (as_text (stopped_line stop ∷ [])) text.old text.new
+    ensures { AddsText (as_text (stopped_line stop ∷ [])) text.old text.new
         (output (K.written out.old) (K.faults out.old)) (output (K.written out.new) (K.faults out.new)) }
 {
     text.push_str(out, stopped_text(stop))

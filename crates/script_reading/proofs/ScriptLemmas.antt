@@ -13,7 +13,7 @@ use Rattle.script_text.specs.declared.line.Line.{Line}
 use Rattle.script_reading.specs.declared.unread.Unread.{Unread}
 use Rattle.script_reading.specs.declared.unread.Unread.TheVariants as unread
 use Rattle.script_reading.specs.Prelude.{IsTextUnder, HasScript, HasBadLine, HaveScripts, AreReadWhole, HaveFront, HasBadScript, FailsToRead}
-use Rattle.script_reading.specs.Scripts.{FailsAt, unread_script}
+use Rattle.script_reading.specs.Scripts.{ScriptFailsAt, unread_script}
 
 -- ---- one script
 
@@ -57,7 +57,7 @@ pub script_fails : {T : Type 0} (e : ScriptFail) (i : ℕ) (names : Option Names
     (none some before now : ℕ) (faults : List ℕ) → IfLine e (λ n. (text : List ℕ) × IsTextOf left text × IsBadAt text n)
     → (e ≡ script.ReadFault → Rose none some) → (¬ IsErrOf {T = T} (Err e) script.ReadFault → some ≡ none) → now ≡ before → none ≡ 0
     → name ≡ get_or files i [] → IfSome names (λ n. IsSome left × (left ≡ finite.get n.texts name)) → faults ≡ replicate i 0 ++ (some ∷ [])
-    → FailsAt i (unread_script e i) names files faults before now
+    → ScriptFailsAt i (unread_script e i) names files faults before now
 script_fails {T} script.Memory i names files name left none some before now faults bad rose kept same is name_is told all = tt
 script_fails {T} (script.Line n) i names files name left none some before now faults bad rose kept same is name_is told all = (
   refl,
@@ -96,14 +96,14 @@ have_next old now files i scripts lines same within have one =
 -- why the scripts weren't read, where those before this one were
 pub fails_to_read : (e : Unread) (old mid : BayView) (files : List (List ℕ)) (i : ℕ) (scripts : List (List Line)) (faults : List ℕ)
     (before at now : ℕ) → mid ≡ old → at ≡ before → i < length files → HaveScripts old.names (take i files) scripts
-    → FailsAt i e mid.names files faults at now → FailsToRead e old.names files faults before now
+    → ScriptFailsAt i e mid.names files faults at now → FailsToRead e old.names files faults before now
 fails_to_read e old mid files i scripts faults before at now same kept within have fails =
-    by e (subst (λ (k : ℕ). FailsAt i e old.names files faults k now) kept (subst (λ (b : BayView). FailsAt i e b.names files faults at now) same fails))
+    by e (subst (λ (k : ℕ). ScriptFailsAt i e old.names files faults k now) kept (subst (λ (b : BayView). ScriptFailsAt i e b.names files faults at now) same fails))
   where
     front : HaveFront old.names files i
     front = record { within = within; scripts = scripts; lines = have }
 
-    by : (e : Unread) → FailsAt i e old.names files faults before now → FailsToRead e old.names files faults before now
+    by : (e : Unread) → ScriptFailsAt i e old.names files faults before now → FailsToRead e old.names files faults before now
     by unread.Memory fails = tt
     by (unread.Line script n) fails =
         subst (λ (k : ℕ). HasBadScript k n old.names files faults before now) (sym fails.0)

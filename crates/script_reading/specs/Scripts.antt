@@ -79,11 +79,11 @@ FailsToRead unread.Fault names files source_faults before now = HasFault names f
 -- ---- one script
 
 -- why the script of this number wasn't read, where those before it were
-abbrev pub FailsAt : ℕ → Unread → Option Names → List (List ℕ) → List ℕ → ℕ → ℕ → Type 0
-FailsAt i unread.Memory names files source_faults before now = Unit {0}
-FailsAt i (unread.Line script n) names files source_faults before now =
+abbrev pub ScriptFailsAt : ℕ → Unread → Option Names → List (List ℕ) → List ℕ → ℕ → ℕ → Type 0
+ScriptFailsAt i unread.Memory names files source_faults before now = Unit {0}
+ScriptFailsAt i (unread.Line script n) names files source_faults before now =
     (script ≡ i) × HasBadLine names (slice_index_or files i []) n × AreReadWhole (i + 1) source_faults before now
-FailsAt i unread.Fault names files source_faults before now = SourceFaults i source_faults before now ⊎ BayFaults i source_faults before now
+ScriptFailsAt i unread.Fault names files source_faults before now = SourceFaults i source_faults before now ⊎ BayFaults i source_faults before now
 
 -- why a script wasn't read that the bay didn't open
 abbrev pub unread_bay : Failed → Unread

@@ -1,6 +1,6 @@
 //! Scripts are opened and read.
 ghost use Rattle.std.specs.Prelude.{◌≡◌, ◌+◌, ◌<◌, ◌≤◌, [], map, replicate, length, slice_index_or, vec_len, vec_capacity, IfOk, OnOk, IfErr};
-ghost use Rattle.script_reading.specs.Scripts.{HasScript, HaveScripts, AreReadWhole, FailsAt, FailsToRead, unread_bay, unread_script};
+ghost use Rattle.script_reading.specs.Scripts.{HasScript, HaveScripts, AreReadWhole, ScriptFailsAt, FailsToRead, unread_bay, unread_script};
 
 use crate::Unread;
 use block_device::Failed;
@@ -44,7 +44,7 @@ fn read_one<B: Bay>(
     requires before { map B.Src.faults sources.old.items ≡ replicate script 0 }
     ensures lines { IfOk result (λ lines. HasScript (B.bay bay.old).names (slice_index_or names.now script []) lines.items) }
     ensures whole { OnOk result (AreReadWhole (script + 1) (map B.Src.faults sources.new.items) (B.faults bay.old) (B.faults bay.new)) }
-    ensures cause { IfErr result (λ e. FailsAt script e (B.bay bay.old).names names.now (map B.Src.faults sources.new.items)
+    ensures cause { IfErr result (λ e. ScriptFailsAt script e (B.bay bay.old).names names.now (map B.Src.faults sources.new.items)
         (B.faults bay.old) (B.faults bay.new)) }
     ensures same { B.bay bay.new ≡ B.bay bay.old }
     ensures later { B.faults bay.old ≤ B.faults bay.new }

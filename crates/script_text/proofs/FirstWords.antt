@@ -6,7 +6,9 @@ use Rattle.object_model.specs.declared.op.Op.{Op}
 use Rattle.object_model.specs.declared.op.Op.TheVariants.{MkColl, RmColl, Touch, Write, Zero, Truncate, Remove, SetAttr, RmAttr, RmAttrs, OmapSet, OmapRm, OmapRmRange, OmapClear, OmapHeader}
 use Rattle.object_model.specs.declared.command.Command.{Command as Asked}
 use Rattle.object_model.specs.declared.command.Command.TheVariants as command
-use Rattle.script_text.specs.Prelude.{IsNameWord, IsNumber, op_word, AreArgs, AreChangeWords, AreReadWords, AreObjectWords, AreValueWords, AreListWords, AreWordsOf}
+use Rattle.object_model.specs.declared.command.Read.{Read}
+use Rattle.object_model.specs.declared.command.Read.TheVariants as reads
+use Rattle.script_text.specs.Prelude.{IsNameWord, IsNumber, op_word, AreArgs, AreChangeWords, AreReadWords, AreObjectWords, AreValueWords, AreListWords, AreWordsOfRead, AreWordsOf}
 use Rattle.script_text.specs.declared.line.What.{What}
 use Rattle.script_text.specs.declared.line.What.TheVariants.{Command, Wait}
 use Rattle.script_text.proofs.Splits.{same_bytes, differ}
@@ -45,16 +47,20 @@ pub record IsOtherWord (word : List ℕ) : Type 0 where
 
 -- ---- the first word
 
+-- the word that a read begins with
+abbrev pub read_word : Read → List ℕ
+read_word (reads.Bytes c o off len) = codes "read"
+read_word (reads.Sum c o) = codes "sum"
+read_word (reads.Stat c o) = codes "stat"
+read_word (reads.GetAttr c o name) = codes "getattr"
+read_word (reads.OmapGet c o key) = codes "omapget"
+read_word (reads.OmapHeader c o) = codes "omaphdr"
+read_word (reads.List c) = codes "list"
+
 -- the word that a read or a `wait` begins with; none for a transaction, which has its operation's
 abbrev pub what_word : What → List ℕ
 what_word (Command (command.Change change)) = []
-what_word (Command (command.Read c o off len)) = codes "read"
-what_word (Command (command.Sum c o)) = codes "sum"
-what_word (Command (command.Stat c o)) = codes "stat"
-what_word (Command (command.GetAttr c o name)) = codes "getattr"
-what_word (Command (command.OmapGet c o key)) = codes "omapget"
-what_word (Command (command.OmapHeader c o)) = codes "omaphdr"
-what_word (Command (command.List c)) = codes "list"
+what_word (Command (command.Read read)) = read_word read
 what_word Wait = codes "wait"
 
 -- it is one of these
@@ -67,17 +73,35 @@ pub record BeginWith (word : List ℕ) (words : List (List ℕ)) : Type 0 where
   pub more : List (List ℕ)
   pub whole : words ≡ word ∷ more
 
+-- the words begin with this one and have another
+pub record BeginSeveral (word : List ℕ) (words : List (List ℕ)) : Type 0 where
+  pub next : List ℕ
+  pub more : List (List ℕ)
+  pub whole : words ≡ word ∷ next ∷ more
+
 -- words that begin with two known words differ
 apart : (a b : List ℕ) (words ws : List (List ℕ)) → same_bytes a b ≡ false → words ≡ a ∷ ws → BeginWith b words → ⊥
 apart a b words ws test is begin =
     let both : a ∷ ws ≡ b ∷ begin.more = sym is ∙ begin.whole in
     let first : a ≡ b = cc in differ a b test first
 
-object_begins : (word : List ℕ) (words : List (List ℕ)) (c o : List ℕ) → AreObjectWords word words c o → BeginWith word words
-object_begins word words c o say = record { more = c ∷ say.object_word ∷ []; whole = say.whole }
+object_begins : (word : List ℕ) (words : List (List ℕ)) (c o : List ℕ) → AreObjectWords word words c o → BeginSeveral word words
+object_begins word words c o say = record { next = c; more = say.object_word ∷ []; whole = say.whole }
 
-value_begins : (word : List ℕ) (words : List (List ℕ)) (c o n : List ℕ) → AreValueWords word words c o n → BeginWith word words
-value_begins word words c o n say = record { more = c ∷ say.object_word ∷ say.name_word ∷ []; whole = say.whole }
+value_begins : (word : List ℕ) (words : List (List ℕ)) (c o n : List ℕ) → AreValueWords word words c o n → BeginSeveral word words
+value_begins word words c o n say = record { next = c; more = say.object_word ∷ say.name_word ∷ []; whole = say.whole }
+
+-- a read begins with its word, which is one of those and not `wait`
+pub read_begins : (words : List (List ℕ)) (read : Read) → AreWordsOfRead words read
+    → (is_read_word (read_word read) ≡ true) × (same_bytes (codes "wait") (read_word read) ≡ false) × BeginSeveral (read_word read) words
+read_begins words (reads.Bytes c o off len) say =
+    (refl, refl, record { next = c; more = say.object_word ∷ say.off_word ∷ say.len_word ∷ []; whole = say.whole })
+read_begins words (reads.Sum c o) say = (refl, refl, object_begins (codes "sum") words c o say)
+read_begins words (reads.Stat c o) say = (refl, refl, object_begins (codes "stat") words c o say)
+read_begins words (reads.GetAttr c o name) say = (refl, refl, value_begins (codes "getattr") words c o name say)
+read_begins words (reads.OmapGet c o key) say = (refl, refl, value_begins (codes "omapget") words c o key say)
+read_begins words (reads.OmapHeader c o) say = (refl, refl, object_begins (codes "omaphdr") words c o say)
+read_begins words (reads.List c) say = (refl, refl, record { next = c; more = []; whole = say.whole })
 
 -- a transaction begins with its operation's word
 change_begins : (words : List (List ℕ)) (change : Change) (say : AreChangeWords words change) → BeginWith (op_word say.op) words
@@ -86,14 +110,9 @@ change_begins words change say = record { more = change.coll ∷ say.args; whole
 -- what is no transaction begins with its word
 begins : (words : List (List ℕ)) (what : What) → what_word what ≢ [] → AreWordsOf words what → BeginWith (what_word what) words
 begins words (Command (command.Change change)) other say = absurd (other refl)
-begins words (Command (command.Read c o off len)) other say =
-    record { more = c ∷ say.object_word ∷ say.off_word ∷ say.len_word ∷ []; whole = say.whole }
-begins words (Command (command.Sum c o)) other say = object_begins (codes "sum") words c o say
-begins words (Command (command.Stat c o)) other say = object_begins (codes "stat") words c o say
-begins words (Command (command.GetAttr c o name)) other say = value_begins (codes "getattr") words c o name say
-begins words (Command (command.OmapGet c o key)) other say = value_begins (codes "omapget") words c o key say
-begins words (Command (command.OmapHeader c o)) other say = object_begins (codes "omaphdr") words c o say
-begins words (Command (command.List c)) other say = record { more = c ∷ []; whole = say.whole }
+begins words (Command (command.Read read)) other say =
+    let several : BeginSeveral (read_word read) words = (read_begins words read say).2 in
+    record { more = several.next ∷ several.more; whole = several.whole }
 begins words Wait other say = record { more = []; whole = say }
 
 -- a transaction begins with the word of an operation
@@ -121,32 +140,24 @@ no_change word words ws change test is say =
     let both : word ∷ ws ≡ op_word say.op ∷ change.coll ∷ say.args = sym is ∙ say.whole in
     let first : word ≡ op_word say.op = cc in no_op_word word say.op say.args test first say.about
 
+other_read : (word : List ℕ) (read : Read) → IsOtherWord word → word ≢ read_word read
+other_read word (reads.Bytes c o off len) other = other.no_read
+other_read word (reads.Sum c o) other = other.no_sum
+other_read word (reads.Stat c o) other = other.no_stat
+other_read word (reads.GetAttr c o name) other = other.no_getattr
+other_read word (reads.OmapGet c o key) other = other.no_omapget
+other_read word (reads.OmapHeader c o) other = other.no_omaphdr
+other_read word (reads.List c) other = other.no_list
+
 -- words that begin with another word say nothing, if they are several
 pub other_words : (word n : List ℕ) (ws : List (List ℕ)) (what : What) → IsOtherWord word → AreWordsOf (word ∷ n ∷ ws) what → ⊥
 other_words word n ws (Command (command.Change change)) other say =
     let both : word ∷ n ∷ ws ≡ op_word say.op ∷ change.coll ∷ say.args = say.whole in
     let first : word ≡ op_word say.op = cc in op_first word say.op say.args other.no_op first say.about
-other_words word n ws (Command (command.Read c o off len)) other say =
-    let both : word ∷ n ∷ ws ≡ codes "read" ∷ c ∷ say.object_word ∷ say.off_word ∷ say.len_word ∷ [] = say.whole in
-    let first : word ≡ codes "read" = cc in other.no_read first
-other_words word n ws (Command (command.Sum c o)) other say =
-    let both : word ∷ n ∷ ws ≡ codes "sum" ∷ c ∷ say.object_word ∷ [] = say.whole in
-    let first : word ≡ codes "sum" = cc in other.no_sum first
-other_words word n ws (Command (command.Stat c o)) other say =
-    let both : word ∷ n ∷ ws ≡ codes "stat" ∷ c ∷ say.object_word ∷ [] = say.whole in
-    let first : word ≡ codes "stat" = cc in other.no_stat first
-other_words word n ws (Command (command.OmapHeader c o)) other say =
-    let both : word ∷ n ∷ ws ≡ codes "omaphdr" ∷ c ∷ say.object_word ∷ [] = say.whole in
-    let first : word ≡ codes "omaphdr" = cc in other.no_omaphdr first
-other_words word n ws (Command (command.GetAttr c o name)) other say =
-    let both : word ∷ n ∷ ws ≡ codes "getattr" ∷ c ∷ say.object_word ∷ say.name_word ∷ [] = say.whole in
-    let first : word ≡ codes "getattr" = cc in other.no_getattr first
-other_words word n ws (Command (command.OmapGet c o key)) other say =
-    let both : word ∷ n ∷ ws ≡ codes "omapget" ∷ c ∷ say.object_word ∷ say.name_word ∷ [] = say.whole in
-    let first : word ≡ codes "omapget" = cc in other.no_omapget first
-other_words word n ws (Command (command.List c)) other say =
-    let both : word ∷ n ∷ ws ≡ codes "list" ∷ c ∷ [] = say.whole in
-    let first : word ≡ codes "list" = cc in other.no_list first
+other_words word n ws (Command (command.Read read)) other say =
+    let several : BeginSeveral (read_word read) (word ∷ n ∷ ws) = (read_begins (word ∷ n ∷ ws) read say).2 in
+    let both : word ∷ n ∷ ws ≡ read_word read ∷ several.next ∷ several.more = several.whole in
+    let first : word ≡ read_word read = cc in other_read word read other first
 other_words word n ws Wait other say = let both : word ∷ n ∷ ws ≡ codes "wait" ∷ [] = say in absurd cc
 
 -- ---- what begins with a known word
@@ -167,8 +178,10 @@ no_read_word word other words ws test also is begin =
 -- words that begin with none of these say a transaction
 pub change_only : (word : List ℕ) (ws : List (List ℕ)) (what : What) → is_read_word word ≡ false → AreWordsOf (word ∷ ws) what → IsChangeLine (word ∷ ws) what
 change_only word ws (Command (command.Change change)) test say = record { change = change; says = refl; are = say }
-change_only word ws what test say =
-    absurd (no_read_word word (what_word what) (word ∷ ws) ws test refl refl (begins (word ∷ ws) what (λ is. let never : what_word what ≡ [] = is in cc) say))
+change_only word ws (Command (command.Read read)) test say =
+    let begin = read_begins (word ∷ ws) read say in
+    absurd (no_read_word word (read_word read) (word ∷ ws) ws test begin.0 refl (record { more = begin.2.next ∷ begin.2.more; whole = begin.2.whole }))
+change_only word ws Wait test say = absurd (no_read_word word (codes "wait") (word ∷ ws) ws test refl refl (record { more = []; whole = say }))
 
 -- the words say a read of an object's bytes
 pub record IsReadLine (words : List (List ℕ)) (what : What) : Type 0 where
@@ -176,7 +189,7 @@ pub record IsReadLine (words : List (List ℕ)) (what : What) : Type 0 where
   pub object : List ℕ
   pub off : ℕ
   pub len : ℕ
-  pub says : what ≡ Command (command.Read coll object off len)
+  pub says : what ≡ Command (command.Read (reads.Bytes coll object off len))
   pub are : AreReadWords words coll object off len
 
 -- the words say a read of an object as a whole, of this form and with this word
@@ -197,54 +210,54 @@ pub record IsValueLine (word : List ℕ) (form : List ℕ → List ℕ → List 
 -- the words say a read of a collection's names
 pub record IsListLine (words : List (List ℕ)) (what : What) : Type 0 where
   pub coll : List ℕ
-  pub says : what ≡ Command (command.List coll)
+  pub says : what ≡ Command (command.Read (reads.List coll))
   pub are : AreListWords words coll
 
 -- what begins with `read`
 pub read_only : (words ws : List (List ℕ)) (what : What) → words ≡ codes "read" ∷ ws → AreWordsOf words what → IsReadLine words what
-read_only words ws (Command (command.Read c o off len)) is say = record { coll = c; object = o; off = off; len = len; says = refl; are = say }
+read_only words ws (Command (command.Read (reads.Bytes c o off len))) is say = record { coll = c; object = o; off = off; len = len; says = refl; are = say }
 read_only words ws (Command (command.Change change)) is say = absurd (no_change (codes "read") words ws change refl is say)
 read_only words ws what is say =
     absurd (apart (codes "read") (what_word what) words ws refl is (begins words what (λ none. let never : what_word what ≡ [] = none in cc) say))
 
 -- what begins with `sum`
-pub sum_only : (words ws : List (List ℕ)) (what : What) → words ≡ codes "sum" ∷ ws → AreWordsOf words what → IsObjectLine (codes "sum") (λ c o. command.Sum c o) words what
-sum_only words ws (Command (command.Sum c o)) is say = record { coll = c; object = o; says = refl; are = say }
+pub sum_only : (words ws : List (List ℕ)) (what : What) → words ≡ codes "sum" ∷ ws → AreWordsOf words what → IsObjectLine (codes "sum") (λ c o. command.Read (reads.Sum c o)) words what
+sum_only words ws (Command (command.Read (reads.Sum c o))) is say = record { coll = c; object = o; says = refl; are = say }
 sum_only words ws (Command (command.Change change)) is say = absurd (no_change (codes "sum") words ws change refl is say)
 sum_only words ws what is say =
     absurd (apart (codes "sum") (what_word what) words ws refl is (begins words what (λ none. let never : what_word what ≡ [] = none in cc) say))
 
 -- what begins with `stat`
-pub stat_only : (words ws : List (List ℕ)) (what : What) → words ≡ codes "stat" ∷ ws → AreWordsOf words what → IsObjectLine (codes "stat") (λ c o. command.Stat c o) words what
-stat_only words ws (Command (command.Stat c o)) is say = record { coll = c; object = o; says = refl; are = say }
+pub stat_only : (words ws : List (List ℕ)) (what : What) → words ≡ codes "stat" ∷ ws → AreWordsOf words what → IsObjectLine (codes "stat") (λ c o. command.Read (reads.Stat c o)) words what
+stat_only words ws (Command (command.Read (reads.Stat c o))) is say = record { coll = c; object = o; says = refl; are = say }
 stat_only words ws (Command (command.Change change)) is say = absurd (no_change (codes "stat") words ws change refl is say)
 stat_only words ws what is say =
     absurd (apart (codes "stat") (what_word what) words ws refl is (begins words what (λ none. let never : what_word what ≡ [] = none in cc) say))
 
 -- what begins with `omaphdr`
-pub omaphdr_only : (words ws : List (List ℕ)) (what : What) → words ≡ codes "omaphdr" ∷ ws → AreWordsOf words what → IsObjectLine (codes "omaphdr") (λ c o. command.OmapHeader c o) words what
-omaphdr_only words ws (Command (command.OmapHeader c o)) is say = record { coll = c; object = o; says = refl; are = say }
+pub omaphdr_only : (words ws : List (List ℕ)) (what : What) → words ≡ codes "omaphdr" ∷ ws → AreWordsOf words what → IsObjectLine (codes "omaphdr") (λ c o. command.Read (reads.OmapHeader c o)) words what
+omaphdr_only words ws (Command (command.Read (reads.OmapHeader c o))) is say = record { coll = c; object = o; says = refl; are = say }
 omaphdr_only words ws (Command (command.Change change)) is say = absurd (no_change (codes "omaphdr") words ws change refl is say)
 omaphdr_only words ws what is say =
     absurd (apart (codes "omaphdr") (what_word what) words ws refl is (begins words what (λ none. let never : what_word what ≡ [] = none in cc) say))
 
 -- what begins with `getattr`
-pub getattr_only : (words ws : List (List ℕ)) (what : What) → words ≡ codes "getattr" ∷ ws → AreWordsOf words what → IsValueLine (codes "getattr") (λ c o n. command.GetAttr c o n) words what
-getattr_only words ws (Command (command.GetAttr c o n)) is say = record { coll = c; object = o; name = n; says = refl; are = say }
+pub getattr_only : (words ws : List (List ℕ)) (what : What) → words ≡ codes "getattr" ∷ ws → AreWordsOf words what → IsValueLine (codes "getattr") (λ c o n. command.Read (reads.GetAttr c o n)) words what
+getattr_only words ws (Command (command.Read (reads.GetAttr c o n))) is say = record { coll = c; object = o; name = n; says = refl; are = say }
 getattr_only words ws (Command (command.Change change)) is say = absurd (no_change (codes "getattr") words ws change refl is say)
 getattr_only words ws what is say =
     absurd (apart (codes "getattr") (what_word what) words ws refl is (begins words what (λ none. let never : what_word what ≡ [] = none in cc) say))
 
 -- what begins with `omapget`
-pub omapget_only : (words ws : List (List ℕ)) (what : What) → words ≡ codes "omapget" ∷ ws → AreWordsOf words what → IsValueLine (codes "omapget") (λ c o n. command.OmapGet c o n) words what
-omapget_only words ws (Command (command.OmapGet c o n)) is say = record { coll = c; object = o; name = n; says = refl; are = say }
+pub omapget_only : (words ws : List (List ℕ)) (what : What) → words ≡ codes "omapget" ∷ ws → AreWordsOf words what → IsValueLine (codes "omapget") (λ c o n. command.Read (reads.OmapGet c o n)) words what
+omapget_only words ws (Command (command.Read (reads.OmapGet c o n))) is say = record { coll = c; object = o; name = n; says = refl; are = say }
 omapget_only words ws (Command (command.Change change)) is say = absurd (no_change (codes "omapget") words ws change refl is say)
 omapget_only words ws what is say =
     absurd (apart (codes "omapget") (what_word what) words ws refl is (begins words what (λ none. let never : what_word what ≡ [] = none in cc) say))
 
 -- what begins with `list`
 pub list_only : (words ws : List (List ℕ)) (what : What) → words ≡ codes "list" ∷ ws → AreWordsOf words what → IsListLine words what
-list_only words ws (Command (command.List c)) is say = record { coll = c; says = refl; are = say }
+list_only words ws (Command (command.Read (reads.List c))) is say = record { coll = c; says = refl; are = say }
 list_only words ws (Command (command.Change change)) is say = absurd (no_change (codes "list") words ws change refl is say)
 list_only words ws what is say =
     absurd (apart (codes "list") (what_word what) words ws refl is (begins words what (λ none. let never : what_word what ≡ [] = none in cc) say))
@@ -253,14 +266,15 @@ list_only words ws what is say =
 pub wait_only : (words ws : List (List ℕ)) (what : What) → words ≡ codes "wait" ∷ ws → AreWordsOf words what → what ≡ Wait
 wait_only words ws Wait is say = refl
 wait_only words ws (Command (command.Change change)) is say = absurd (no_change (codes "wait") words ws change refl is say)
-wait_only words ws what is say =
-    absurd (apart (codes "wait") (what_word what) words ws refl is (begins words what (λ none. let never : what_word what ≡ [] = none in cc) say))
+wait_only words ws (Command (command.Read read)) is say =
+    let begin = read_begins words read say in
+    absurd (apart (codes "wait") (read_word read) words ws begin.1 is (record { more = begin.2.next ∷ begin.2.more; whole = begin.2.whole }))
 
 -- ---- the same words say the same
 
 -- a read's words give its arguments
 pub read_same : (words : List (List ℕ)) (c d o p : List ℕ) (n m k l : ℕ) → AreReadWords words c o n k → AreReadWords words d p m l
-    → command.Read c o n k ≡ command.Read d p m l
+    → command.Read (reads.Bytes c o n k) ≡ command.Read (reads.Bytes d p m l)
 read_same words c d o p n m k l x y =
     let both : codes "read" ∷ c ∷ x.object_word ∷ x.off_word ∷ x.len_word ∷ [] ≡ codes "read" ∷ d ∷ y.object_word ∷ y.off_word ∷ y.len_word ∷ []
     = sym x.whole ∙ y.whole in
@@ -284,10 +298,10 @@ object_same word form words c d o p x y =
     ap (λ (l : List ℕ). form l o) colls ∙ ap (λ (l : List ℕ). form d l) objects
 
 -- the words of a list give its collection
-pub list_same : (words : List (List ℕ)) (c d : List ℕ) → AreListWords words c → AreListWords words d → command.List c ≡ command.List d
+pub list_same : (words : List (List ℕ)) (c d : List ℕ) → AreListWords words c → AreListWords words d → command.Read (reads.List c) ≡ command.Read (reads.List d)
 list_same words c d x y =
     let both : codes "list" ∷ c ∷ [] ≡ codes "list" ∷ d ∷ [] = sym x.whole ∙ y.whole in
-    let colls : c ≡ d = cc in ap (λ (l : List ℕ). command.List l) colls
+    let colls : c ≡ d = cc in ap (λ (l : List ℕ). command.Read (reads.List l)) colls
 
 -- the words of a read of a value give its names
 pub value_same : (word : List ℕ) (form : List ℕ → List ℕ → List ℕ → Asked) (words : List (List ℕ)) (c d o p n m : List ℕ) → AreValueWords word words c o n

@@ -10,7 +10,9 @@ use Rattle.object_model.specs.declared.op.Op.{Op}
 use Rattle.object_model.specs.declared.op.Op.TheVariants.{MkColl, RmColl, Touch, Write, Zero, Truncate, Remove, SetAttr, RmAttr, RmAttrs, OmapSet, OmapRm, OmapRmRange, OmapClear, OmapHeader}
 use Rattle.object_model.specs.declared.op.Pair.{Pair}
 use Rattle.object_model.specs.declared.command.Command.TheVariants as command
-use Rattle.script_text.specs.Prelude.{HasNo, AreWords, in_words, IsNameWord, IsNumber, IsDataWord, op_word, AreObjectArgs, AreWriteArgs, AreRangeArgs, AreSizeArgs, AreNameArgs, AreDataArgs, AreAttrArgs, AreKeyRangeArgs, AreKeyWords, ArePairWords, AreKeysArgs, ArePairsArgs, AreArgs, AreChangeWords, AreReadWords, AreObjectWords, AreValueWords, AreListWords, AreWordsOf, FitsWhat, IsLineOf, op_line, IsPassedOver, Finds, AreGoodWords, NamesObject, NamesRange, NamesSize}
+use Rattle.object_model.specs.declared.command.Read.{Read}
+use Rattle.object_model.specs.declared.command.Read.TheVariants as reads
+use Rattle.script_text.specs.Prelude.{HasNo, AreWords, in_words, IsNameWord, IsNumber, IsDataWord, op_word, AreObjectArgs, AreWriteArgs, AreRangeArgs, AreSizeArgs, AreNameArgs, AreDataArgs, AreAttrArgs, AreKeyRangeArgs, AreKeyWords, ArePairWords, AreKeysArgs, ArePairsArgs, AreArgs, AreChangeWords, AreReadWords, AreObjectWords, AreValueWords, AreListWords, AreWordsOfRead, AreWordsOf, FitsWhat, IsLineOf, op_line, IsPassedOver, Finds, AreGoodWords, NamesObject, NamesRange, NamesSize}
 use Rattle.script_text.specs.declared.line.What.{What}
 use Rattle.script_text.specs.declared.line.What.TheVariants.{Command, Wait}
 use Rattle.script_text.specs.declared.fail.WordFail.{WordFail}
@@ -21,7 +23,7 @@ use Rattle.script_text.proofs.Names.{name_no_space}
 use Rattle.script_text.proofs.DataWords.{data_no_space}
 use Rattle.script_text.proofs.Words.{same_words}
 use Rattle.script_text.proofs.OpWords.{IsWriteOp, known_args, mkcoll_only, rmcoll_only, touch_only, write_only, zero_only, truncate_only, remove_only, op_same}
-use Rattle.script_text.proofs.FirstWords.{IsOtherWord, is_read_word, other_words, change_only, read_only, sum_only, stat_only, getattr_only, omapget_only, omaphdr_only, list_only, wait_only}
+use Rattle.script_text.proofs.FirstWords.{IsOtherWord, is_read_word, read_word, read_begins, other_words, change_only, read_only, sum_only, stat_only, getattr_only, omapget_only, omaphdr_only, list_only, wait_only}
 use Rattle.script_text.proofs.FirstWords.{read_same, object_same, value_same, list_same}
 
 -- what is known of a result that is Ok
@@ -215,17 +217,21 @@ list_worded words c say = subst IsWorded (sym say.whole) (record {
   no_spaces = (has_none 0x20 (codes "list") refl, (coll_no_space c say.named, tt));
 })
 
+-- the words of each read
+worded_read : (words : List (List ℕ)) (read : Read) → AreWordsOfRead words read → IsWorded words
+worded_read words (reads.Bytes c o off len) say = read_worded words c o off len say
+worded_read words (reads.Sum c o) say = object_worded 0x73 (codes "um") words c o (omega arith) (has_none 0x20 (codes "sum") refl) say
+worded_read words (reads.Stat c o) say = object_worded 0x73 (codes "tat") words c o (omega arith) (has_none 0x20 (codes "stat") refl) say
+worded_read words (reads.GetAttr c o n) say = value_worded 0x67 (codes "etattr") words c o n (omega arith) (has_none 0x20 (codes "getattr") refl) say
+worded_read words (reads.OmapGet c o n) say = value_worded 0x6f (codes "mapget") words c o n (omega arith) (has_none 0x20 (codes "omapget") refl) say
+worded_read words (reads.OmapHeader c o) say = object_worded 0x6f (codes "maphdr") words c o (omega arith) (has_none 0x20 (codes "omaphdr") refl) say
+worded_read words (reads.List c) say = list_worded words c say
+
 -- the words of each line
 worded : (words : List (List ℕ)) (what : What) → AreWordsOf words what → IsWorded words
 worded words (Command (command.Change change)) say =
     subst IsWorded (sym say.whole) (op_worded say.op change.coll say.args (coll_no_space change.coll say.named) say.about)
-worded words (Command (command.Read c o off len)) say = read_worded words c o off len say
-worded words (Command (command.Sum c o)) say = object_worded 0x73 (codes "um") words c o (omega arith) (has_none 0x20 (codes "sum") refl) say
-worded words (Command (command.Stat c o)) say = object_worded 0x73 (codes "tat") words c o (omega arith) (has_none 0x20 (codes "stat") refl) say
-worded words (Command (command.GetAttr c o n)) say = value_worded 0x67 (codes "etattr") words c o n (omega arith) (has_none 0x20 (codes "getattr") refl) say
-worded words (Command (command.OmapGet c o n)) say = value_worded 0x6f (codes "mapget") words c o n (omega arith) (has_none 0x20 (codes "omapget") refl) say
-worded words (Command (command.OmapHeader c o)) say = object_worded 0x6f (codes "maphdr") words c o (omega arith) (has_none 0x20 (codes "omaphdr") refl) say
-worded words (Command (command.List c)) say = list_worded words c say
+worded words (Command (command.Read read)) say = worded_read words read say
 worded words Wait say = record {
   first = 0x77;
   word = codes "ait";
@@ -304,77 +310,71 @@ change_same words a b x y =
 
 -- words that say a read of bytes say nothing else
 read_says_one : (words : List (List ℕ)) (c o : List ℕ) (off len : ℕ) (b : What) → AreReadWords words c o off len → AreWordsOf words b
-    → Command (command.Read c o off len) ≡ b
+    → Command (command.Read (reads.Bytes c o off len)) ≡ b
 read_says_one words c o off len b x y =
     let is = read_only words (c ∷ x.object_word ∷ x.off_word ∷ x.len_word ∷ []) b x.whole y in
     ap Command (read_same words c is.coll o is.object off is.off len is.len x is.are) ∙ sym is.says
 
 -- words that say a sum say nothing else
 sum_says_one : (words : List (List ℕ)) (c o : List ℕ) (b : What) → AreObjectWords (codes "sum") words c o → AreWordsOf words b
-    → Command (command.Sum c o) ≡ b
+    → Command (command.Read (reads.Sum c o)) ≡ b
 sum_says_one words c o b x y =
     let is = sum_only words (c ∷ x.object_word ∷ []) b x.whole y in
-    ap Command (object_same (codes "sum") (λ d p. command.Sum d p) words c is.coll o is.object x is.are) ∙ sym is.says
+    ap Command (object_same (codes "sum") (λ d p. command.Read (reads.Sum d p)) words c is.coll o is.object x is.are) ∙ sym is.says
 
 -- words that say a stat say nothing else
 stat_says_one : (words : List (List ℕ)) (c o : List ℕ) (b : What) → AreObjectWords (codes "stat") words c o → AreWordsOf words b
-    → Command (command.Stat c o) ≡ b
+    → Command (command.Read (reads.Stat c o)) ≡ b
 stat_says_one words c o b x y =
     let is = stat_only words (c ∷ x.object_word ∷ []) b x.whole y in
-    ap Command (object_same (codes "stat") (λ d p. command.Stat d p) words c is.coll o is.object x is.are) ∙ sym is.says
+    ap Command (object_same (codes "stat") (λ d p. command.Read (reads.Stat d p)) words c is.coll o is.object x is.are) ∙ sym is.says
 
 -- words that say to read an attribute say nothing else
 getattr_says_one : (words : List (List ℕ)) (c o n : List ℕ) (b : What) → AreValueWords (codes "getattr") words c o n → AreWordsOf words b
-    → Command (command.GetAttr c o n) ≡ b
+    → Command (command.Read (reads.GetAttr c o n)) ≡ b
 getattr_says_one words c o n b x y =
     let is = getattr_only words (c ∷ x.object_word ∷ x.name_word ∷ []) b x.whole y in
-    ap Command (value_same (codes "getattr") (λ d p m. command.GetAttr d p m) words c is.coll o is.object n is.name x is.are) ∙ sym is.says
+    ap Command (value_same (codes "getattr") (λ d p m. command.Read (reads.GetAttr d p m)) words c is.coll o is.object n is.name x is.are) ∙ sym is.says
 
 -- words that say to read a value of the omap say nothing else
 omapget_says_one : (words : List (List ℕ)) (c o n : List ℕ) (b : What) → AreValueWords (codes "omapget") words c o n → AreWordsOf words b
-    → Command (command.OmapGet c o n) ≡ b
+    → Command (command.Read (reads.OmapGet c o n)) ≡ b
 omapget_says_one words c o n b x y =
     let is = omapget_only words (c ∷ x.object_word ∷ x.name_word ∷ []) b x.whole y in
-    ap Command (value_same (codes "omapget") (λ d p m. command.OmapGet d p m) words c is.coll o is.object n is.name x is.are) ∙ sym is.says
+    ap Command (value_same (codes "omapget") (λ d p m. command.Read (reads.OmapGet d p m)) words c is.coll o is.object n is.name x is.are) ∙ sym is.says
 
 -- words that say to read the header say nothing else
 omaphdr_says_one : (words : List (List ℕ)) (c o : List ℕ) (b : What) → AreObjectWords (codes "omaphdr") words c o → AreWordsOf words b
-    → Command (command.OmapHeader c o) ≡ b
+    → Command (command.Read (reads.OmapHeader c o)) ≡ b
 omaphdr_says_one words c o b x y =
     let is = omaphdr_only words (c ∷ x.object_word ∷ []) b x.whole y in
-    ap Command (object_same (codes "omaphdr") (λ d p. command.OmapHeader d p) words c is.coll o is.object x is.are) ∙ sym is.says
+    ap Command (object_same (codes "omaphdr") (λ d p. command.Read (reads.OmapHeader d p)) words c is.coll o is.object x is.are) ∙ sym is.says
 
 -- words that say a list say nothing else
-list_says_one : (words : List (List ℕ)) (c : List ℕ) (b : What) → AreListWords words c → AreWordsOf words b → Command (command.List c) ≡ b
+list_says_one : (words : List (List ℕ)) (c : List ℕ) (b : What) → AreListWords words c → AreWordsOf words b → Command (command.Read (reads.List c)) ≡ b
 list_says_one words c b x y = let is = list_only words (c ∷ []) b x.whole y in ap Command (list_same words c is.coll x is.are) ∙ sym is.says
 
 -- words that say to wait say nothing else
 wait_says_one : (words : List (List ℕ)) (b : What) → words ≡ codes "wait" ∷ [] → AreWordsOf words b → Wait ≡ b
 wait_says_one words b x y = sym (wait_only words [] b x y)
 
+-- words that say a read say nothing else
+reads_say_one : (words : List (List ℕ)) (read : Read) (b : What) → AreWordsOfRead words read → AreWordsOf words b → Command (command.Read read) ≡ b
+reads_say_one words (reads.Bytes c o off len) b x y = read_says_one words c o off len b x y
+reads_say_one words (reads.Sum c o) b x y = sum_says_one words c o b x y
+reads_say_one words (reads.Stat c o) b x y = stat_says_one words c o b x y
+reads_say_one words (reads.GetAttr c o n) b x y = getattr_says_one words c o n b x y
+reads_say_one words (reads.OmapGet c o n) b x y = omapget_says_one words c o n b x y
+reads_say_one words (reads.OmapHeader c o) b x y = omaphdr_says_one words c o b x y
+reads_say_one words (reads.List c) b x y = list_says_one words c b x y
+
 -- words say one thing
 words_say_one : (words : List (List ℕ)) (a b : What) → AreWordsOf words a → AreWordsOf words b → a ≡ b
 words_say_one words (Command (command.Change c)) (Command (command.Change d)) x y =
     ap (λ (z : Change). Command (command.Change z)) (change_same words c d x y)
-words_say_one words (Command (command.Change c)) (Command (command.Read d o off len)) x y =
-    sym (read_says_one words d o off len (Command (command.Change c)) y x)
-words_say_one words (Command (command.Change c)) (Command (command.Sum d o)) x y = sym (sum_says_one words d o (Command (command.Change c)) y x)
-words_say_one words (Command (command.Change c)) (Command (command.Stat d o)) x y = sym (stat_says_one words d o (Command (command.Change c)) y x)
-words_say_one words (Command (command.Change c)) (Command (command.GetAttr d o n)) x y =
-    sym (getattr_says_one words d o n (Command (command.Change c)) y x)
-words_say_one words (Command (command.Change c)) (Command (command.OmapGet d o n)) x y =
-    sym (omapget_says_one words d o n (Command (command.Change c)) y x)
-words_say_one words (Command (command.Change c)) (Command (command.OmapHeader d o)) x y =
-    sym (omaphdr_says_one words d o (Command (command.Change c)) y x)
-words_say_one words (Command (command.Change c)) (Command (command.List d)) x y = sym (list_says_one words d (Command (command.Change c)) y x)
+words_say_one words (Command (command.Change c)) (Command (command.Read read)) x y = sym (reads_say_one words read (Command (command.Change c)) y x)
 words_say_one words (Command (command.Change c)) Wait x y = sym (wait_says_one words (Command (command.Change c)) y x)
-words_say_one words (Command (command.Read c o off len)) b x y = read_says_one words c o off len b x y
-words_say_one words (Command (command.Sum c o)) b x y = sum_says_one words c o b x y
-words_say_one words (Command (command.Stat c o)) b x y = stat_says_one words c o b x y
-words_say_one words (Command (command.GetAttr c o n)) b x y = getattr_says_one words c o n b x y
-words_say_one words (Command (command.OmapGet c o n)) b x y = omapget_says_one words c o n b x y
-words_say_one words (Command (command.OmapHeader c o)) b x y = omaphdr_says_one words c o b x y
-words_say_one words (Command (command.List c)) b x y = list_says_one words c b x y
+words_say_one words (Command (command.Read read)) b x y = reads_say_one words read b x y
 words_say_one words Wait b x y = wait_says_one words b x y
 
 pub line_says_one : (text : List ℕ) (a b : What) → IsLineOf text a → IsLineOf text b → a ≡ b
@@ -390,14 +390,9 @@ one_word text what none line = by what (line_words text [] text what (none, tt) 
   where
     by : (what : What) → AreWordsOf (text ∷ []) what → text ≡ codes "wait"
     by (Command (command.Change change)) say = let two : text ∷ [] ≡ op_word say.op ∷ change.coll ∷ say.args = say.whole in absurd cc
-    by (Command (command.Read c o off len)) say =
-        let two : text ∷ [] ≡ codes "read" ∷ c ∷ say.object_word ∷ say.off_word ∷ say.len_word ∷ [] = say.whole in absurd cc
-    by (Command (command.Sum c o)) say = let two : text ∷ [] ≡ codes "sum" ∷ c ∷ say.object_word ∷ [] = say.whole in absurd cc
-    by (Command (command.Stat c o)) say = let two : text ∷ [] ≡ codes "stat" ∷ c ∷ say.object_word ∷ [] = say.whole in absurd cc
-    by (Command (command.GetAttr c o n)) say = let two : text ∷ [] ≡ codes "getattr" ∷ c ∷ say.object_word ∷ say.name_word ∷ [] = say.whole in absurd cc
-    by (Command (command.OmapGet c o n)) say = let two : text ∷ [] ≡ codes "omapget" ∷ c ∷ say.object_word ∷ say.name_word ∷ [] = say.whole in absurd cc
-    by (Command (command.OmapHeader c o)) say = let two : text ∷ [] ≡ codes "omaphdr" ∷ c ∷ say.object_word ∷ [] = say.whole in absurd cc
-    by (Command (command.List c)) say = let two : text ∷ [] ≡ codes "list" ∷ c ∷ [] = say.whole in absurd cc
+    by (Command (command.Read read)) say =
+        let several = (read_begins (text ∷ []) read say).2 in
+        let two : text ∷ [] ≡ read_word read ∷ several.next ∷ several.more = several.whole in absurd cc
     by Wait say = let one : text ∷ [] ≡ codes "wait" ∷ [] = say in cc
 
 pub wait_line : (text : List ℕ) → text ≡ codes "wait" → IsLineOf text Wait

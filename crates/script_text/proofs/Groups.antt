@@ -8,7 +8,7 @@ use Rattle.std.proofs.lemmas.Bool.Decides.{nat_tests}
 use Rattle.object_model.specs.declared.op.Op.{Op}
 use Rattle.object_model.specs.declared.command.Command.TheVariants as command
 use Rattle.object_model.specs.Prelude.{Change, is_same}
-use Rattle.script_text.specs.Prelude.{command_limit, lines_of, Says, EachSays, Parse, start, one_more, counted, ends_in_wait, kept_behind, with_line, with_block, with_ended, outside, together, inside, next, after, IsScript, commands, command_count, is_wait, IsNoChange, FitsWhat, IsKnownChangeOp, IsKnownChange}
+use Rattle.script_text.specs.Prelude.{command_limit, lines_of, Says, EachSays, Parse, start, one_command_more, statement_counted, ends_in_wait, kept_behind, with_line, with_block, with_ended, outside, together, inside, next, parse_after, IsScript, commands, command_count, is_wait, IsNoChange, FitsWhat, IsKnownChangeOp, IsKnownChange}
 use Rattle.script_text.specs.declared.grammar.Statement.{Statement}
 use Rattle.script_text.specs.declared.grammar.Statement.TheVariants.{PassedOver, Begin, End, Says as Alone}
 use Rattle.script_text.specs.declared.line.Line.{Line}
@@ -98,7 +98,7 @@ record IsCounted (p q : Parse) : Type 0 where
   pub some : 0 < p.commands_left
   pub is : q ≡ record p { commands_left = p.commands_left - 1 }
 
-one_counted : (p q : Parse) → one_more p ≡ Some q → IsCounted p q
+one_counted : (p q : Parse) → one_command_more p ≡ Some q → IsCounted p q
 one_counted p q is = elim (cases_Bool (p.commands_left == 0)) [
   | inl none ↦
       let never : None ≡ Some q = sym (ap (λ (b : Bool). if b then None else Some (record p { commands_left = p.commands_left - 1 })) none) ∙ is in absurd cc
@@ -108,7 +108,7 @@ one_counted p q is = elim (cases_Bool (p.commands_left == 0)) [
       record { some = grind (arith, nat_tests, some); is = some_is (record p { commands_left = p.commands_left - 1 }) q found }
 ]
 
-begun_fits : (n : ℕ) (p q : Parse) → Fits p → one_more p ≡ Some q → Fits (with_block (record { line = n; change = None }) q)
+begun_fits : (n : ℕ) (p q : Parse) → Fits p → one_command_more p ≡ Some q → Fits (with_block (record { line = n; change = None }) q)
 begun_fits n p q fits is =
     let counts = one_counted p q is in
     subst (λ (r : Parse). Fits (with_block (record { line = n; change = None }) r)) (sym counts.is) (record {
@@ -117,7 +117,7 @@ begun_fits n p q fits is =
       few = omega (arith, fits.few, counts.some);
     })
 
-said_fits : (n : ℕ) (p q : Parse) (what : What) → Fits p → FitsWhat what → counted what p ≡ Some q → Fits (with_line (record { line = n; what = what }) q)
+said_fits : (n : ℕ) (p q : Parse) (what : What) → Fits p → FitsWhat what → statement_counted what p ≡ Some q → Fits (with_line (record { line = n; what = what }) q)
 said_fits n p q Wait fits what is =
     subst (λ (r : Parse). Fits (with_line (record { line = n; what = Wait }) r)) (sym (some_is p q is))
     (with_line_fits (record { line = n; what = Wait }) p fits.lines fits.block what (omega (arith, fits.few)))
@@ -130,11 +130,11 @@ said_fits n p q (Command c) fits what is =
 outside_fits : (n : ℕ) (p q : Parse) (text : List ℕ) (s : Statement) → Says text s → Fits p → outside n p s ≡ Some q → Fits q
 outside_fits n p q text PassedOver says fits is = subst Fits (sym (some_is p q (sym (outside_passed n p) ∙ is))) fits
 outside_fits n p q text Begin says fits is =
-    let m = maps (with_block (record { line = n; change = None })) (one_more p) q (sym (outside_begin n p) ∙ is) in
+    let m = maps (with_block (record { line = n; change = None })) (one_command_more p) q (sym (outside_begin n p) ∙ is) in
     subst Fits (sym m.to) (begun_fits n p m.from fits m.is)
 outside_fits n p q text End says fits is = let never : None ≡ Some q = sym (outside_end n p) ∙ is in absurd cc
 outside_fits n p q text (Alone what) says fits is =
-    let m = maps (with_line (record { line = n; what = what })) (counted what p) q (sym (outside_alone n p what) ∙ is) in
+    let m = maps (with_line (record { line = n; what = what })) (statement_counted what p) q (sym (outside_alone n p what) ∙ is) in
     subst Fits (sym m.to) (said_fits n p m.from what fits says.fits m.is)
 
 together_fits : (so_far : Option Change) (more both : Change) → FitsSoFar so_far → IsKnownChange more.ops → together so_far more ≡ Some both
@@ -178,13 +178,7 @@ module _ (p : Parse) (b : Block) (fits : Fits p) (here : p.block ≡ Some b) whe
   inside_fits q text (Alone (Command (command.Change change))) says is =
       let m = maps (λ both. with_block (record b { change = Some both }) p) (together b.change change) q (sym (inside_change p b change) ∙ is) in
       subst Fits (sym m.to) (block_fits (Some m.from) (together_fits b.change change m.from fits_here says.fits m.is))
-  inside_fits q text (Alone (Command (command.Read c o off len))) says is = not_inside q (Command (command.Read c o off len)) tt is
-  inside_fits q text (Alone (Command (command.Sum c o))) says is = not_inside q (Command (command.Sum c o)) tt is
-  inside_fits q text (Alone (Command (command.Stat c o))) says is = not_inside q (Command (command.Stat c o)) tt is
-  inside_fits q text (Alone (Command (command.GetAttr c o name))) says is = not_inside q (Command (command.GetAttr c o name)) tt is
-  inside_fits q text (Alone (Command (command.OmapGet c o key))) says is = not_inside q (Command (command.OmapGet c o key)) tt is
-  inside_fits q text (Alone (Command (command.OmapHeader c o))) says is = not_inside q (Command (command.OmapHeader c o)) tt is
-  inside_fits q text (Alone (Command (command.List c))) says is = not_inside q (Command (command.List c)) tt is
+  inside_fits q text (Alone (Command (command.Read read))) says is = not_inside q (Command (command.Read read)) tt is
   inside_fits q text (Alone Wait) says is = not_inside q Wait tt is
 
 next_fits : (n : ℕ) (p q : Parse) (text : List ℕ) (s : Statement) → Says text s → Fits p → next n p s ≡ Some q → Fits q
@@ -195,7 +189,7 @@ next_fits n p q text s says fits is = by p.block refl
     by (Some b) some = inside_fits p b fits some q text s says (sym (next_inside n p s b some) ∙ is)
 
 after_fits : (texts : List (List ℕ)) (n : ℕ) (p q : Parse) (statements : List Statement) → EachSays texts statements → Fits p
-    → after n (Some p) statements ≡ Some q → Fits q
+    → parse_after n (Some p) statements ≡ Some q → Fits q
 after_fits [] n p q [] says fits is = subst Fits (sym (some_is p q is)) fits
 after_fits (t ∷ ts) n p q (s ∷ more) says fits is =
     let reached = next_goes n p q s more is in

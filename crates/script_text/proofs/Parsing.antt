@@ -4,7 +4,7 @@ use Rattle.std.specs.Prelude.{◌&&◌}
 use Rattle.std.specs.Option.{option_map}
 use Rattle.object_model.specs.declared.command.Command.TheVariants as command
 use Rattle.object_model.specs.Prelude.{Change, is_same}
-use Rattle.script_text.specs.Prelude.{Parse, one_more, counted, ends_in_wait, kept_behind, with_line, with_block, with_ended, together, outside, inside, next, is_wait, Becomes, IsNoChange}
+use Rattle.script_text.specs.Prelude.{Parse, one_command_more, statement_counted, ends_in_wait, kept_behind, with_line, with_block, with_ended, together, outside, inside, next, is_wait, Becomes, IsNoChange}
 use Rattle.script_text.specs.declared.grammar.Statement.{Statement}
 use Rattle.script_text.specs.declared.grammar.Statement.TheVariants.{PassedOver, Begin, End, Says as Alone}
 use Rattle.script_text.specs.declared.line.Line.{Line}
@@ -14,19 +14,19 @@ use Rattle.script_text.specs.declared.parser.Block.{Block}
 
 -- ---- one more command
 
-pub one_fits : (p q : Parse) → (p.commands_left == 0) ≡ false → q ≡ record p { commands_left = p.commands_left - 1 } → Becomes (one_more p) true q
+pub one_fits : (p q : Parse) → (p.commands_left == 0) ≡ false → q ≡ record p { commands_left = p.commands_left - 1 } → Becomes (one_command_more p) true q
 one_fits p q some is =
     subst (λ (b : Bool). Becomes (if b then None else Some (record p { commands_left = p.commands_left - 1 })) true q) (sym some) (refl, is)
 
-pub none_fits : (p q : Parse) → (p.commands_left == 0) ≡ true → Becomes (one_more p) false q
+pub none_fits : (p q : Parse) → (p.commands_left == 0) ≡ true → Becomes (one_command_more p) false q
 none_fits p q none =
     subst (λ (b : Bool). Becomes (if b then None else Some (record p { commands_left = p.commands_left - 1 })) false q) (sym none) refl
 
-pub wait_fits : (w : What) (p q : Parse) → is_wait w ≡ true → q ≡ p → Becomes (counted w p) true q
+pub wait_fits : (w : What) (p q : Parse) → is_wait w ≡ true → q ≡ p → Becomes (statement_counted w p) true q
 wait_fits Wait p q is same = (refl, same)
 wait_fits (Command c) p q is same = let never : false ≡ true = is in absurd cc
 
-pub command_fits : (w : What) (p q : Parse) (fits : Bool) → is_wait w ≡ false → Becomes (one_more p) fits q → Becomes (counted w p) fits q
+pub command_fits : (w : What) (p q : Parse) (fits : Bool) → is_wait w ≡ false → Becomes (one_command_more p) fits q → Becomes (statement_counted w p) fits q
 command_fits Wait p q fits is becomes = let never : true ≡ false = is in absurd cc
 command_fits (Command c) p q fits is becomes = becomes
 
@@ -49,7 +49,7 @@ pub outside_passed : (n : ℕ) (p : Parse) → outside n p PassedOver ≡ Some p
 unfolding outside
 outside_passed n p = refl
 
-pub outside_begin : (n : ℕ) (p : Parse) → outside n p Begin ≡ option_map (with_block (record { line = n; change = None })) (one_more p)
+pub outside_begin : (n : ℕ) (p : Parse) → outside n p Begin ≡ option_map (with_block (record { line = n; change = None })) (one_command_more p)
 unfolding outside
 outside_begin n p = refl
 
@@ -57,7 +57,7 @@ pub outside_end : (n : ℕ) (p : Parse) → outside n p End ≡ None
 unfolding outside
 outside_end n p = refl
 
-pub outside_alone : (n : ℕ) (p : Parse) (w : What) → outside n p (Alone w) ≡ option_map (with_line (record { line = n; what = w })) (counted w p)
+pub outside_alone : (n : ℕ) (p : Parse) (w : What) → outside n p (Alone w) ≡ option_map (with_line (record { line = n; what = w })) (statement_counted w p)
 unfolding outside
 outside_alone n p w = refl
 
@@ -126,27 +126,27 @@ pub with_put : (b : Block) (p q : Parse) (z : Option Block) → z ≡ Some b →
 with_put b p q z put same = ap (λ (y : Option Block). record p { block = y }) put ∙ ap (with_block b) same
 
 -- a block is begun
-pub begun : (n : ℕ) (p q r : Parse) → Becomes (one_more p) true q → r ≡ with_block (record { line = n; change = None }) q → Becomes (outside n p Begin) true r
+pub begun : (n : ℕ) (p q r : Parse) → Becomes (one_command_more p) true q → r ≡ with_block (record { line = n; change = None }) q → Becomes (outside n p Begin) true r
 begun n p q r becomes is =
-    becomes_same (outside n p Begin) (option_map (with_block (record { line = n; change = None })) (one_more p)) true r (outside_begin n p)
-    (becomes_map (with_block (record { line = n; change = None })) (one_more p) q r becomes is)
+    becomes_same (outside n p Begin) (option_map (with_block (record { line = n; change = None })) (one_command_more p)) true r (outside_begin n p)
+    (becomes_map (with_block (record { line = n; change = None })) (one_command_more p) q r becomes is)
 
-pub not_begun : (n : ℕ) (p q r : Parse) → Becomes (one_more p) false q → Becomes (outside n p Begin) false r
+pub not_begun : (n : ℕ) (p q r : Parse) → Becomes (one_command_more p) false q → Becomes (outside n p Begin) false r
 not_begun n p q r becomes =
-    becomes_same (outside n p Begin) (option_map (with_block (record { line = n; change = None })) (one_more p)) false r (outside_begin n p)
-    (becomes_none (with_block (record { line = n; change = None })) (one_more p) q r becomes)
+    becomes_same (outside n p Begin) (option_map (with_block (record { line = n; change = None })) (one_command_more p)) false r (outside_begin n p)
+    (becomes_none (with_block (record { line = n; change = None })) (one_command_more p) q r becomes)
 
 -- something is said
-pub said : (n : ℕ) (w : What) (p q r : Parse) → Becomes (counted w p) true q → r ≡ with_line (record { line = n; what = w }) q
+pub said : (n : ℕ) (w : What) (p q r : Parse) → Becomes (statement_counted w p) true q → r ≡ with_line (record { line = n; what = w }) q
     → Becomes (outside n p (Alone w)) true r
 said n w p q r becomes is =
-    becomes_same (outside n p (Alone w)) (option_map (with_line (record { line = n; what = w })) (counted w p)) true r (outside_alone n p w)
-    (becomes_map (with_line (record { line = n; what = w })) (counted w p) q r becomes is)
+    becomes_same (outside n p (Alone w)) (option_map (with_line (record { line = n; what = w })) (statement_counted w p)) true r (outside_alone n p w)
+    (becomes_map (with_line (record { line = n; what = w })) (statement_counted w p) q r becomes is)
 
-pub not_said : (n : ℕ) (w : What) (p q r : Parse) → Becomes (counted w p) false q → Becomes (outside n p (Alone w)) false r
+pub not_said : (n : ℕ) (w : What) (p q r : Parse) → Becomes (statement_counted w p) false q → Becomes (outside n p (Alone w)) false r
 not_said n w p q r becomes =
-    becomes_same (outside n p (Alone w)) (option_map (with_line (record { line = n; what = w })) (counted w p)) false r (outside_alone n p w)
-    (becomes_none (with_line (record { line = n; what = w })) (counted w p) q r becomes)
+    becomes_same (outside n p (Alone w)) (option_map (with_line (record { line = n; what = w })) (statement_counted w p)) false r (outside_alone n p w)
+    (becomes_none (with_line (record { line = n; what = w })) (statement_counted w p) q r becomes)
 
 -- the block is ended
 pub ended_block : (p q : Parse) (b : Block) (change : Change) → b.change ≡ Some change → p.block ≡ None

@@ -4,6 +4,7 @@ use Rattle.std.specs.Prelude.{codes}
 use Rattle.unit_fields.specs.Prelude.{IsCollName}
 use Rattle.object_model.specs.declared.command.Command.{Command as Asked}
 use Rattle.object_model.specs.declared.command.Command.TheVariants as command
+use Rattle.object_model.specs.declared.command.Read.TheVariants as reads
 use Rattle.script_text.specs.Prelude.{in_words, AreObjectWords, IsLineOf, NamesObject, NamesRange}
 use Rattle.script_text.specs.declared.line.What.{What}
 use Rattle.script_text.specs.declared.line.What.TheVariants.{Command}
@@ -23,14 +24,14 @@ object_words word n ws form rest what is of =
 pub sum_says : (rest : List ℕ) (what : What) → IsLineOf (codes "sum" ++ (0x20 ∷ rest)) what → HasObject rest
 sum_says rest what line =
     let behind = behind_first (codes "sum") rest what (has_none 0x20 (codes "sum") refl) line in
-    object_words (codes "sum") behind.next behind.words (λ c o. command.Sum c o) rest what behind.whole
+    object_words (codes "sum") behind.next behind.words (λ c o. command.Read (reads.Sum c o)) rest what behind.whole
     (sum_only (codes "sum" ∷ behind.next ∷ behind.words) (behind.next ∷ behind.words) what refl behind.say)
 
 -- a line of `stat` names an object
 pub stat_says : (rest : List ℕ) (what : What) → IsLineOf (codes "stat" ++ (0x20 ∷ rest)) what → HasObject rest
 stat_says rest what line =
     let behind = behind_first (codes "stat") rest what (has_none 0x20 (codes "stat") refl) line in
-    object_words (codes "stat") behind.next behind.words (λ c o. command.Stat c o) rest what behind.whole
+    object_words (codes "stat") behind.next behind.words (λ c o. command.Read (reads.Stat c o)) rest what behind.whole
     (stat_only (codes "stat" ∷ behind.next ∷ behind.words) (behind.next ∷ behind.words) what refl behind.say)
 
 -- the words of a text that names an object, behind another
@@ -38,7 +39,7 @@ words_of : (word rest c o : List ℕ) (is : NamesObject rest c o) → AreObjectW
 words_of word rest c o is = record { object_word = is.object_word; named = is.named; whole = refl; names = is.names }
 
 -- a text that names an object behind `sum`
-pub sum_line : (rest c o : List ℕ) → NamesObject rest c o → IsLineOf (codes "sum" ++ (0x20 ∷ rest)) (Command (command.Sum c o))
+pub sum_line : (rest c o : List ℕ) → NamesObject rest c o → IsLineOf (codes "sum" ++ (0x20 ∷ rest)) (Command (command.Read (reads.Sum c o)))
 sum_line rest c o is = record {
   words = codes "sum" ∷ c ∷ is.object_word ∷ [];
   whole = ap (λ (l : List ℕ). codes "sum" ++ (0x20 ∷ l)) is.whole;
@@ -47,7 +48,7 @@ sum_line rest c o is = record {
 }
 
 -- a text that names an object behind `stat`
-pub stat_line : (rest c o : List ℕ) → NamesObject rest c o → IsLineOf (codes "stat" ++ (0x20 ∷ rest)) (Command (command.Stat c o))
+pub stat_line : (rest c o : List ℕ) → NamesObject rest c o → IsLineOf (codes "stat" ++ (0x20 ∷ rest)) (Command (command.Read (reads.Stat c o)))
 stat_line rest c o is = record {
   words = codes "stat" ∷ c ∷ is.object_word ∷ [];
   whole = ap (λ (l : List ℕ). codes "stat" ++ (0x20 ∷ l)) is.whole;
@@ -67,7 +68,7 @@ list_says rest what line =
     (rest, (refl, subst IsCollName (sym (behind.whole ∙ ap in_words tails)) of.are.named))
 
 -- a collection's name behind `list`
-pub list_line : (rest coll : List ℕ) → coll ≡ rest → IsCollName rest → IsLineOf (codes "list" ++ (0x20 ∷ rest)) (Command (command.List coll))
+pub list_line : (rest coll : List ℕ) → coll ≡ rest → IsCollName rest → IsLineOf (codes "list" ++ (0x20 ∷ rest)) (Command (command.Read (reads.List coll)))
 list_line rest coll is named = record {
   words = codes "list" ∷ coll ∷ [];
   whole = ap (λ (l : List ℕ). codes "list" ++ (0x20 ∷ l)) (sym is);
@@ -91,7 +92,7 @@ read_says rest what line =
     )
 
 -- a text that names a range behind `read`
-pub read_line : (rest c o : List ℕ) (off len : ℕ) → NamesRange rest c o off len → IsLineOf (codes "read" ++ (0x20 ∷ rest)) (Command (command.Read c o off len))
+pub read_line : (rest c o : List ℕ) (off len : ℕ) → NamesRange rest c o off len → IsLineOf (codes "read" ++ (0x20 ∷ rest)) (Command (command.Read (reads.Bytes c o off len)))
 read_line rest c o off len is = record {
   words = codes "read" ∷ c ∷ is.are.object_word ∷ is.are.off_word ∷ is.are.len_word ∷ [];
   whole = ap (λ (l : List ℕ). codes "read" ++ (0x20 ∷ l)) (is.whole ∙ ap (λ (l : List (List ℕ)). in_words (c ∷ l)) is.are.words);

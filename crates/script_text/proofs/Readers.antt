@@ -2,7 +2,7 @@
 use Rattle.std.proofs.Common.{◌≡◌, ◌≢◌, inl, inr, ℕ, ◌+◌, ◌<◌, ◌≤◌, Bool, true, false, List, [], ◌∷◌, ◌++◌}
 use Rattle.std.proofs.Common.{length, Option, Some, None, MatchOption, refl, sym, ap, subst, ◌∙◌, arith, append_assoc, append-nil, length-append}
 use Rattle.std.specs.Prelude.{is_some, IsSome, IsNone, OnOk, Result, Ok, Err}
-use Rattle.script_text.specs.Prelude.{HasNo, script_limit, line_limit, lines_of, ended, Says, Parse, next, AreGood, IsScript, IsOutside, IsBadAt, Becomes, IsBadBehind, Ends, IsWithin, IsAfter, Takes, HasTaken, AreAllGood, IsAtEnd}
+use Rattle.script_text.specs.Prelude.{HasNo, script_limit, line_limit, lines_of, ended, Says, Parse, next, AreGood, IsScript, IsOutside, IsBadAt, Becomes, IsBadBehind, Ends, IsReadSoFar, IsAfter, TakesPiece, HasTaken, AreAllGood, IsAtEnd}
 use Rattle.script_text.specs.declared.grammar.Statement.{Statement}
 use Rattle.script_text.specs.declared.line.Line.{Line}
 use Rattle.script_text.specs.declared.reader.Reader.{Reader}
@@ -52,20 +52,20 @@ pub none_of : {X : Type 0} (o : Option X) (r : Bool) → r ≡ is_some o → r �
 none_of None r is test = refl
 none_of (Some x) r is test = let never : true ≡ false = sym is ∙ test in cc
 
-pub is_within : (bytes : List ℕ) (r : Reader) → r.bad ≡ None → IsAfter bytes r → IsWithin bytes r
-is_within bytes r none after = subst (λ (o : Option ℕ). MatchOption o (IsWithin bytes r) (λ n. (more : List ℕ) → IsBadAt (bytes ++ more) n)) none after
+pub is_within : (bytes : List ℕ) (r : Reader) → r.bad ≡ None → IsAfter bytes r → IsReadSoFar bytes r
+is_within bytes r none after = subst (λ (o : Option ℕ). MatchOption o (IsReadSoFar bytes r) (λ n. (more : List ℕ) → IsBadAt (bytes ++ more) n)) none after
 
 -- the lines of the bytes, with more behind them
-lines_with : (bytes more : List ℕ) (r : Reader) (w : IsWithin bytes r) → lines_of (bytes ++ more) ≡ w.texts ++ lines_of (r.text.items ++ more)
+lines_with : (bytes more : List ℕ) (r : Reader) (w : IsReadSoFar bytes r) → lines_of (bytes ++ more) ≡ w.texts ++ lines_of (r.text.items ++ more)
 lines_with bytes more r w =
     ap (λ (l : List ℕ). lines_of l) (ap (λ (l : List ℕ). l ++ more) w.whole ∙ append_assoc (ended w.texts) r.text.items more)
     ∙ lines_behind w.texts (r.text.items ++ more) w.no_feeds
 
-ended_size : (bytes : List ℕ) (r : Reader) (w : IsWithin bytes r) → length bytes ≡ length (ended w.texts) + length r.text.items
+ended_size : (bytes : List ℕ) (r : Reader) (w : IsReadSoFar bytes r) → length bytes ≡ length (ended w.texts) + length r.text.items
 ended_size bytes r w = ap length w.whole ∙ length-append (ended w.texts) r.text.items
 
 -- a line that is bad by itself or as a command
-pub bad_behind : (bytes whole text : List ℕ) (behind : List (List ℕ)) (r : Reader) (n : ℕ) (w : IsWithin bytes r)
+pub bad_behind : (bytes whole text : List ℕ) (behind : List (List ℕ)) (r : Reader) (n : ℕ) (w : IsReadSoFar bytes r)
     → lines_of whole ≡ w.texts ++ (text ∷ behind) → IsBadBehind w.texts text n → IsBadAt whole n
 bad_behind bytes whole text behind r n w lines bad = inl (record {
   front = w.texts;
@@ -80,10 +80,10 @@ bad_behind bytes whole text behind r n w lines bad = inl (record {
 })
 
 -- a line feed
-fed : (bytes : List ℕ) (old new : Reader) (w : IsWithin bytes old) → length (bytes ++ (10 ∷ [])) ≤ script_limit → new.text.items ≡ []
+fed : (bytes : List ℕ) (old new : Reader) (w : IsReadSoFar bytes old) → length (bytes ++ (10 ∷ [])) ≤ script_limit → new.text.items ≡ []
     → new.count ≡ old.count + 1 → (o : Option ℕ)
     → MatchOption o (AreGood (w.texts ++ (old.text.items ∷ [])) new.parser) (IsBadBehind w.texts old.text.items)
-    → MatchOption o (IsWithin (bytes ++ (10 ∷ [])) new) (λ n. (more : List ℕ) → IsBadAt (bytes ++ (10 ∷ []) ++ more) n)
+    → MatchOption o (IsReadSoFar (bytes ++ (10 ∷ [])) new) (λ n. (more : List ℕ) → IsBadAt (bytes ++ (10 ∷ []) ++ more) n)
 fed bytes old new w small empty count None good = record {
   texts = w.texts ++ (old.text.items ∷ []);
   good = good;
@@ -101,14 +101,14 @@ fed bytes old new w small empty count (Some n) bad = λ more.
     ∙ ap (λ (l : List (List ℕ)). w.texts ++ l) (lines_of_ended old.text.items more w.unended)) bad
 
 pub takes_feed : (old new : Reader) → old.bad ≡ None → new.text.items ≡ [] → new.count ≡ old.count + 1 → Ends (λ text. text ≡ old.text.items) old new
-    → Takes (10 ∷ []) old new
+    → TakesPiece (10 ∷ []) old new
 takes_feed old new none empty count ends bytes small after =
     let w = is_within bytes old none after in
     fed bytes old new w small empty count new.bad (ends w.texts old.text.items w.good w.count none w.short refl)
 
 -- the same, where memory may have run out
 pub takes_feed_if_ok : {X E : Type 0} (old new : Reader) (r : Result X E) → old.bad ≡ None → OnOk r (new.text.items ≡ []) → OnOk r (new.count ≡ old.count + 1)
-    → OnOk r (Ends (λ text. text ≡ old.text.items) old new) → OnOk r (Takes (10 ∷ []) old new)
+    → OnOk r (Ends (λ text. text ≡ old.text.items) old new) → OnOk r (TakesPiece (10 ∷ []) old new)
 takes_feed_if_ok old new (Ok x) none empty count ends = takes_feed old new none empty count ends
 takes_feed_if_ok old new (Err e) none empty count ends = empty
 
@@ -160,14 +160,14 @@ past_limit bytes piece r none full byte after more =
     })
 
 -- two pieces, one after the other
-pub takes_both : (a b : List ℕ) (r s t : Reader) → Takes a r s → Takes b s t → Takes (a ++ b) r t
+pub takes_both : (a b : List ℕ) (r s t : Reader) → TakesPiece a r s → TakesPiece b s t → TakesPiece (a ++ b) r t
 takes_both a b r s t first second bytes small after =
     let same : bytes ++ a ++ b ≡ bytes ++ (a ++ b) = append_assoc bytes a b in
     let fits : length (bytes ++ a) ≤ script_limit = omega (arith, small, length-append bytes (a ++ b), length-append a b, length-append bytes a) in
     subst (λ (l : List ℕ). IsAfter l t) same (second (bytes ++ a) (subst (λ (l : List ℕ). length l ≤ script_limit) (sym same) small) (first bytes fits after))
 
 pub taken_more : (piece rest front behind : List ℕ) (old r s t : Reader) → HasTaken piece rest old r → rest ≡ front ++ (10 ∷ behind) → s.count ≡ r.count
-    → Takes front r s → t.count ≤ s.count + 1 → Takes (10 ∷ []) s t
+    → TakesPiece front r s → t.count ≤ s.count + 1 → TakesPiece (10 ∷ []) s t
     → HasTaken piece behind old t
 taken_more piece rest front behind old r s t so_far cut same takes one feed =
     let line = front ++ (10 ∷ []) in
@@ -184,9 +184,9 @@ if_taken P Q (Ok x) more p = more p
 if_taken P Q (Err e) more p = p
 
 -- the last part of a piece
-pub taken_all : (piece rest : List ℕ) (old r s : Reader) → HasTaken piece rest old r → Takes rest r s → Takes piece old s
+pub taken_all : (piece rest : List ℕ) (old r s : Reader) → HasTaken piece rest old r → TakesPiece rest r s → TakesPiece piece old s
 taken_all piece rest old r s so_far takes =
-    subst (λ (l : List ℕ). Takes l old s) (sym so_far.whole) (takes_both so_far.front rest old r s so_far.takes takes)
+    subst (λ (l : List ℕ). TakesPiece l old s) (sym so_far.whole) (takes_both so_far.front rest old r s so_far.takes takes)
 
 -- ---- the end of a script
 
@@ -207,7 +207,7 @@ done_ended bytes r none empty after =
       small = w.small;
     })
 
-done_by : (bytes : List ℕ) (old new : Reader) (w : IsWithin bytes old) → lines_of bytes ≡ w.texts ++ (old.text.items ∷ []) → new.count ≡ old.count + 1
+done_by : (bytes : List ℕ) (old new : Reader) (w : IsReadSoFar bytes old) → lines_of bytes ≡ w.texts ++ (old.text.items ∷ []) → new.count ≡ old.count + 1
     → (o : Option ℕ) → MatchOption o (AreGood (w.texts ++ (old.text.items ∷ [])) new.parser) (IsBadBehind w.texts old.text.items)
     → MatchOption o (AreAllGood bytes new) (IsBadAt bytes)
 done_by bytes old new w lines count None good = record {

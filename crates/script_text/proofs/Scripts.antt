@@ -4,7 +4,7 @@ use Rattle.std.proofs.Common.{Bool, true, false, length, Option, Some, None, ref
 use Rattle.std.specs.Prelude.{slice_get, ◌-◌, codes, IsSome}
 use Rattle.std.specs.List.{AllByRecursion}
 use Rattle.std.proofs.lemmas.Bool.{cases_lt}
-use Rattle.script_text.specs.Prelude.{script_limit, line_limit, lines_of, ended, Says, EachSays, Parse, start, next, after, AreGood, IsScript, IsPastLimit, IsBad, IsBadLine, IsBadAt, IsPassedOver, IsLineOf, is_wait, ends_in_wait}
+use Rattle.script_text.specs.Prelude.{script_limit, line_limit, lines_of, ended, Says, EachSays, Parse, start, next, parse_after, AreGood, IsScript, IsPastLimit, IsBad, IsBadLine, IsBadAt, IsPassedOver, IsLineOf, is_wait, ends_in_wait}
 use Rattle.script_text.specs.declared.grammar.Statement.{Statement}
 use Rattle.script_text.specs.declared.grammar.Statement.TheVariants.{PassedOver, Begin, End, Says as Alone}
 use Rattle.script_text.specs.declared.line.Line.{Line}
@@ -85,7 +85,7 @@ some_same a b is = cc
 pub good_one : (texts : List (List ℕ)) (p q : Parse) → AreGood texts p → AreGood texts q → p ≡ q
 good_one texts p q x y =
     let same = each_says_one texts x.statements y.statements x.says y.says in
-    some_same p q (sym x.grouped ∙ ap (λ (l : List Statement). after 1 (Some start) l) same ∙ y.grouped)
+    some_same p q (sym x.grouped ∙ ap (λ (l : List Statement). parse_after 1 (Some start) l) same ∙ y.grouped)
 
 pub one_list : (bytes : List ℕ) (a b : List Line) → IsScript bytes a → IsScript bytes b → a ≡ b
 one_list bytes a b x y = x.said ∙ ap (λ (p : Parse). p.lines) (good_one (lines_of bytes) x.parse y.parse x.good y.good) ∙ sym y.said
@@ -102,7 +102,7 @@ last_line waits (x ∷ y ∷ ls) l is =
 
 -- ---- lists of lines, cut
 
-after_none : (n : ℕ) (more : List Statement) → after n None more ≡ None
+after_none : (n : ℕ) (more : List Statement) → parse_after n None more ≡ None
 after_none n [] = refl
 after_none n (s ∷ more) = refl
 
@@ -110,19 +110,19 @@ after_none n (s ∷ more) = refl
 pub record Reaches (n : ℕ) (p q : Parse) (here : Statement) (behind : List Statement) : Type 0 where
   pub mid : Parse
   pub goes : next n p here ≡ Some mid
-  pub rest : after (n + 1) (Some mid) behind ≡ Some q
+  pub rest : parse_after (n + 1) (Some mid) behind ≡ Some q
 
-pub next_goes : (n : ℕ) (p q : Parse) (here : Statement) (rest : List Statement) → after n (Some p) (here ∷ rest) ≡ Some q → Reaches n p q here rest
+pub next_goes : (n : ℕ) (p q : Parse) (here : Statement) (rest : List Statement) → parse_after n (Some p) (here ∷ rest) ≡ Some q → Reaches n p q here rest
 next_goes n p q here rest is = by (next n p here) refl
   where
     by : (o : Option Parse) → next n p here ≡ o → Reaches n p q here rest
     by None none =
-        let gone : Some q ≡ None = sym is ∙ ap (λ (o : Option Parse). after (n + 1) o rest) none ∙ after_none (n + 1) rest in
+        let gone : Some q ≡ None = sym is ∙ ap (λ (o : Option Parse). parse_after (n + 1) o rest) none ∙ after_none (n + 1) rest in
         absurd (cc)
-    by (Some mid) some = record { mid = mid; goes = some; rest = sym (ap (λ (o : Option Parse). after (n + 1) o rest) some) ∙ is }
+    by (Some mid) some = record { mid = mid; goes = some; rest = sym (ap (λ (o : Option Parse). parse_after (n + 1) o rest) some) ∙ is }
 
-pub after-append : (n m : ℕ) (p : Option Parse) (a b : List Statement) → m ≡ n + length a → after n p (a ++ b) ≡ after m (after n p a) b
-after-append n m p [] b is = let here : n ≡ m = omega (arith, is) in ap (λ (k : ℕ). after k p b) here
+pub after-append : (n m : ℕ) (p : Option Parse) (a b : List Statement) → m ≡ n + length a → parse_after n p (a ++ b) ≡ parse_after m (parse_after n p a) b
+after-append n m p [] b is = let here : n ≡ m = omega (arith, is) in ap (λ (k : ℕ). parse_after k p b) here
 after-append n m None (s ∷ a) b is = sym (after_none m b)
 after-append n m (Some p) (s ∷ a) b is = after-append (n + 1) m (next n p s) a b (omega (arith, is))
 
@@ -176,13 +176,13 @@ stands_among front text behind p q good before =
     let around = says_around front text behind good.statements good.says in
     let same : around.before ≡ before.statements = each_says_one front around.before before.statements around.says_before before.says in
     let size : length around.before ≡ length front = length_says front around.before around.says_before in
-    let cut : after 1 (Some start) (around.before ++ (around.here ∷ around.after))
-    ≡ after (length front + 1) (after 1 (Some start) around.before) (around.here ∷ around.after) =
+    let cut : parse_after 1 (Some start) (around.before ++ (around.here ∷ around.after))
+    ≡ parse_after (length front + 1) (parse_after 1 (Some start) around.before) (around.here ∷ around.after) =
     after-append 1 (length front + 1) (Some start) around.before (around.here ∷ around.after) (omega (arith, size)) in
-    let front_is : after 1 (Some start) around.before ≡ Some p = ap (λ (l : List Statement). after 1 (Some start) l) same ∙ before.grouped in
-    let whole : after (length front + 1) (Some p) (around.here ∷ around.after) ≡ Some q =
-    ap (λ (o : Option Parse). after (length front + 1) o (around.here ∷ around.after)) (sym front_is) ∙ sym cut
-    ∙ ap (λ (l : List Statement). after 1 (Some start) l) (sym around.whole) ∙ good.grouped in
+    let front_is : parse_after 1 (Some start) around.before ≡ Some p = ap (λ (l : List Statement). parse_after 1 (Some start) l) same ∙ before.grouped in
+    let whole : parse_after (length front + 1) (Some p) (around.here ∷ around.after) ≡ Some q =
+    ap (λ (o : Option Parse). parse_after (length front + 1) o (around.here ∷ around.after)) (sym front_is) ∙ sym cut
+    ∙ ap (λ (l : List Statement). parse_after 1 (Some start) l) (sym around.whole) ∙ good.grouped in
     let reached = next_goes (length front + 1) p q around.here around.after whole in
     record { statement = around.here; says = around.says_here; mid = reached.mid; goes = reached.goes }
 
@@ -290,7 +290,7 @@ good-push texts text p q s good says le goes = record {
   says = says-push texts text good.statements s good.says says;
   short = short-push texts text good.short le;
   grouped = after-append 1 (length texts + 1) (Some start) good.statements (s ∷ []) (omega (arith, length_says texts good.statements good.says))
-      ∙ ap (λ (o : Option Parse). after (length texts + 1) o (s ∷ [])) good.grouped ∙ goes;
+      ∙ ap (λ (o : Option Parse). parse_after (length texts + 1) o (s ∷ [])) good.grouped ∙ goes;
 }
 
 -- before the first line

@@ -4,7 +4,7 @@ use Rattle.std.proofs.Common.{take, drop, Option, Some, None, refl, sym, ap, sub
 use Rattle.std.specs.Prelude.{IfSome}
 use Rattle.std.proofs.lemmas.List.{take-append-drop, drop_all, drop_at, nil_from_length}
 use Rattle.end_points.specs.Source.{Took, without_first}
-use Rattle.script_text.specs.Prelude.{script_limit, IsTextOf, IsAfter, Takes, IsReadFrom, EndsBy, IsReadingOn, WasReadUpTo, WasRead}
+use Rattle.script_text.specs.Prelude.{script_limit, IsTextOf, IsAfter, TakesPiece, IsReadFrom, ReadingEnds, IsReadingOn, WasReadUpTo, WasRead}
 use Rattle.script_text.specs.declared.reader.Reader.{Reader}
 
 -- a read's bytes, where nothing stood before them
@@ -30,7 +30,7 @@ took_on (Some whole) mid new bytes most n before after from empty t =
 
 pub reading_more : (old mid new : Option (List ℕ)) (r s : Reader) (left most n : ℕ) (before after piece : List ℕ) → IsReadingOn old mid r left → before ≡ []
     → Took mid most n before after new → n ≤ left
-    → piece ≡ after → Takes piece r s → s.count ≤ r.count + length piece → IsReadingOn old new s (left - n)
+    → piece ≡ after → TakesPiece piece r s → s.count ≤ r.count + length piece → IsReadingOn old new s (left - n)
 reading_more old mid new r s left most n before after piece on empty t few is takes count =
     let size : length piece ≡ n = ap length is ∙ took_size mid new most n before after empty t in
     let total : length (on.bytes ++ piece) ≡ length on.bytes + length piece = length-append on.bytes piece in
@@ -42,13 +42,13 @@ reading_more old mid new r s left most n before after piece on empty t few is ta
       count = omega (arith, total, on.count, count);
     }
 
-text_of_whole : (old new : Option (List ℕ)) (bytes : List ℕ) → IsReadFrom old bytes new → EndsBy true new bytes → IsTextOf old bytes
+text_of_whole : (old new : Option (List ℕ)) (bytes : List ℕ) → IsReadFrom old bytes new → ReadingEnds true new bytes → IsTextOf old bytes
 text_of_whole None new bytes from ends = tt
 text_of_whole (Some whole) new bytes from ends =
     let nil : from.0 ≡ [] = subst (λ (o : Option (List ℕ)). IfSome o (λ left. left ≡ [])) from.1 ends in
     from.2 ∙ ap (λ (l : List ℕ). bytes ++ l) nil ∙ append-nil bytes
 
-through_whole : (old new : Option (List ℕ)) (bytes : List ℕ) → IsReadFrom old bytes new → EndsBy true new bytes → length bytes ≤ script_limit
+through_whole : (old new : Option (List ℕ)) (bytes : List ℕ) → IsReadFrom old bytes new → ReadingEnds true new bytes → length bytes ≤ script_limit
     → new ≡ without_first 1073741825 old
 through_whole None new bytes from ends small = from
 through_whole (Some whole) new bytes from ends small =
@@ -61,7 +61,7 @@ through_whole (Some whole) new bytes from ends small =
 -- a source that ended within the limit
 pub ended_read : (old new : Option (List ℕ)) (r : Reader) (end : Bool) → end ≡ true → WasReadUpTo old new r end → WasRead old new r
 ended_read old new r end is read =
-    let ends = subst (λ (b : Bool). EndsBy b new read.bytes) is read.ends in
+    let ends = subst (λ (b : Bool). ReadingEnds b new read.bytes) is read.ends in
     record {
       text = read.bytes;
       of = text_of_whole old new read.bytes read.from ends;

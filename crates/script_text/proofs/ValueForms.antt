@@ -5,6 +5,7 @@ use Rattle.unit_fields.specs.Prelude.{IsCollName}
 use Rattle.object_model.specs.declared.op.Op.TheVariants.{SetAttr, RmAttr, RmAttrs, OmapSet, OmapRm, OmapRmRange, OmapClear, OmapHeader}
 use Rattle.object_model.specs.declared.op.Pair.{Pair}
 use Rattle.object_model.specs.declared.command.Command.TheVariants as command
+use Rattle.object_model.specs.declared.command.Read.TheVariants as reads
 use Rattle.script_text.specs.Prelude.{AreWords, in_words, IsNameWord, IsDataWord, AreNameArgs, AreDataArgs, AreAttrArgs, AreKeyRangeArgs, IsLineOf, op_line, HasArgs, NamesObject, NamesValue, NamesHeader, NamesAttr, NamesKeyRange, NamesKeys, NamesPairs}
 use Rattle.script_text.specs.declared.line.What.{What}
 use Rattle.script_text.specs.declared.line.What.TheVariants.{Command}
@@ -265,7 +266,7 @@ getattr_says rest what line =
           are.named are.names are.called,
     )
 
-pub getattr_line : (rest c o n : List ℕ) → NamesValue rest c o n → IsLineOf (codes "getattr" ++ (0x20 ∷ rest)) (Command (command.GetAttr c o n))
+pub getattr_line : (rest c o n : List ℕ) → NamesValue rest c o n → IsLineOf (codes "getattr" ++ (0x20 ∷ rest)) (Command (command.Read (reads.GetAttr c o n)))
 getattr_line rest c o n is = record {
   words = codes "getattr" ∷ c ∷ is.are.object_word ∷ is.are.name_word ∷ [];
   whole = ap (λ (l : List ℕ). codes "getattr" ++ (0x20 ∷ l)) (is.whole ∙ ap (λ (l : List (List ℕ)). in_words (c ∷ l)) is.are.words);
@@ -293,7 +294,7 @@ omapget_says rest what line =
           are.named are.names are.called,
     )
 
-pub omapget_line : (rest c o n : List ℕ) → NamesValue rest c o n → IsLineOf (codes "omapget" ++ (0x20 ∷ rest)) (Command (command.OmapGet c o n))
+pub omapget_line : (rest c o n : List ℕ) → NamesValue rest c o n → IsLineOf (codes "omapget" ++ (0x20 ∷ rest)) (Command (command.Read (reads.OmapGet c o n)))
 omapget_line rest c o n is = record {
   words = codes "omapget" ∷ c ∷ is.are.object_word ∷ is.are.name_word ∷ [];
   whole = ap (λ (l : List ℕ). codes "omapget" ++ (0x20 ∷ l)) (is.whole ∙ ap (λ (l : List (List ℕ)). in_words (c ∷ l)) is.are.words);
@@ -318,7 +319,7 @@ omaphdr_says rest what line =
           of.are.named of.are.names,
     )
 
-pub omaphdr_line : (rest c o : List ℕ) → NamesObject rest c o → IsLineOf (codes "omaphdr" ++ (0x20 ∷ rest)) (Command (command.OmapHeader c o))
+pub omaphdr_line : (rest c o : List ℕ) → NamesObject rest c o → IsLineOf (codes "omaphdr" ++ (0x20 ∷ rest)) (Command (command.Read (reads.OmapHeader c o)))
 omaphdr_line rest c o is = record {
   words = codes "omaphdr" ∷ c ∷ is.object_word ∷ [];
   whole = ap (λ (l : List ℕ). codes "omaphdr" ++ (0x20 ∷ l)) is.whole;

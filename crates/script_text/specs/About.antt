@@ -2,6 +2,7 @@
 use Rattle.std.specs.Prelude.{ℕ, List, codes}
 use Rattle.object_model.specs.declared.op.Op.TheVariants as op
 use Rattle.object_model.specs.declared.command.Command.TheVariants as command
+use Rattle.object_model.specs.declared.command.Read.TheVariants as reads
 use Rattle.script_text.specs.Grammar.{op_line}
 use Rattle.script_text.specs.declared.about.CollWord.{CollWord}
 use Rattle.script_text.specs.declared.about.CollWord.TheVariants as coll
@@ -21,7 +22,7 @@ coll_word coll.List = codes "list"
 abbrev pub coll_says : CollWord → List ℕ → What
 coll_says coll.MkColl c = op_line c op.MkColl
 coll_says coll.RmColl c = op_line c op.RmColl
-coll_says coll.List c = Command (command.List c)
+coll_says coll.List c = Command (command.Read (reads.List c))
 
 -- `WORD C O`
 abbrev pub object_word : ObjectWord → List ℕ
@@ -38,9 +39,9 @@ object_says object.Touch c o = op_line c (op.Touch o)
 object_says object.Remove c o = op_line c (op.Remove o)
 object_says object.RmAttrs c o = op_line c (op.RmAttrs o)
 object_says object.OmapClear c o = op_line c (op.OmapClear o)
-object_says object.Sum c o = Command (command.Sum c o)
-object_says object.Stat c o = Command (command.Stat c o)
-object_says object.OmapHdr c o = Command (command.OmapHeader c o)
+object_says object.Sum c o = Command (command.Read (reads.Sum c o))
+object_says object.Stat c o = Command (command.Read (reads.Stat c o))
+object_says object.OmapHdr c o = Command (command.Read (reads.OmapHeader c o))
 
 -- `WORD C O NAME`
 abbrev pub value_word : ValueWord → List ℕ
@@ -50,5 +51,5 @@ value_word value.OmapGet = codes "omapget"
 
 abbrev pub value_says : ValueWord → List ℕ → List ℕ → List ℕ → What
 value_says value.RmAttr c o name = op_line c (op.RmAttr o name)
-value_says value.GetAttr c o name = Command (command.GetAttr c o name)
-value_says value.OmapGet c o name = Command (command.OmapGet c o name)
+value_says value.GetAttr c o name = Command (command.Read (reads.GetAttr c o name))
+value_says value.OmapGet c o name = Command (command.Read (reads.OmapGet c o name))

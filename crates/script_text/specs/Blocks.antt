@@ -40,13 +40,13 @@ abbrev pub start : Parse
 start = record { lines = []; commands_left = command_limit; block = None }
 
 -- one more command, unless it is one too many
-abbrev pub one_more : Parse → Option Parse
-one_more p = if p.commands_left == 0 then None else Some (record p { commands_left = p.commands_left - 1 })
+abbrev pub one_command_more : Parse → Option Parse
+one_command_more p = if p.commands_left == 0 then None else Some (record p { commands_left = p.commands_left - 1 })
 
 -- a `wait` isn't counted
-abbrev pub counted : What → Parse → Option Parse
-counted (Command command) p = one_more p
-counted Wait p = Some p
+abbrev pub statement_counted : What → Parse → Option Parse
+statement_counted (Command command) p = one_command_more p
+statement_counted Wait p = Some p
 
 -- the last of these lines is a `wait`; where there is none, the one before them is
 abbrev pub ends_in_wait : Bool → List Line → Bool
@@ -72,9 +72,9 @@ with_ended b p change = with_line (record { line = b.line; what = Command (comma
 -- the line of this number behind others, outside of a block; None if it can't stand there
 unfoldable pub outside : ℕ → Parse → Statement → Option Parse
 outside n p PassedOver = Some p
-outside n p Begin = option_map (with_block (record { line = n; change = None })) (one_more p)
+outside n p Begin = option_map (with_block (record { line = n; change = None })) (one_command_more p)
 outside n p End = None
-outside n p (Alone what) = option_map (with_line (record { line = n; what = what })) (counted what p)
+outside n p (Alone what) = option_map (with_line (record { line = n; what = what })) (statement_counted what p)
 
 -- the operations of a block and of one line more, on the same collection
 abbrev pub together : Option Change → Change → Option Change
@@ -94,7 +94,7 @@ unfoldable pub next : ℕ → Parse → Statement → Option Parse
 next n p s = elim p.block [ None ↦ outside n p s | Some b ↦ inside p b s ]
 
 -- lines behind others, where the first has this number; None if one of them can't stand there
-abbrev pub after : ℕ → Option Parse → List Statement → Option Parse
-after n p [] = p
-after n None (s ∷ more) = None
-after n (Some p) (s ∷ more) = after (n + 1) (next n p s) more
+abbrev pub parse_after : ℕ → Option Parse → List Statement → Option Parse
+parse_after n p [] = p
+parse_after n None (s ∷ more) = None
+parse_after n (Some p) (s ∷ more) = parse_after (n + 1) (next n p s) more

@@ -8,6 +8,8 @@ use Rattle.object_model.specs.declared.op.Op.TheVariants.{MkColl, RmColl, Touch,
 use Rattle.object_model.specs.declared.op.Pair.{Pair}
 use Rattle.object_model.specs.Prelude.{Change}
 use Rattle.object_model.specs.declared.command.Command.TheVariants as command
+use Rattle.object_model.specs.declared.command.Read.{Read}
+use Rattle.object_model.specs.declared.command.Read.TheVariants as reads
 use Rattle.script_text.specs.declared.line.What.{What}
 use Rattle.script_text.specs.declared.line.What.TheVariants.{Command, Wait}
 
@@ -51,12 +53,12 @@ abbrev pub IsNumber : List ℕ → ℕ → Type 0
 IsNumber word n = (n < 2 ^ 64) × (word ≡ decimal n)
 
 -- from the one byte to the other
-abbrev pub is_from_to : ℕ → ℕ → ℕ → Bool
-is_from_to first last b = nat_le first b && nat_le b last
+abbrev pub is_byte_between : ℕ → ℕ → ℕ → Bool
+is_byte_between first last b = nat_le first b && nat_le b last
 
 -- digits, capital and small letters, `.`, `_` and `-`
 abbrev pub is_plain : ℕ → Bool
-is_plain b = is_from_to 0x30 0x39 b || is_from_to 0x41 0x5a b || is_from_to 0x61 0x7a b || b == 0x2e || b == 0x5f || b == 0x2d
+is_plain b = is_byte_between 0x30 0x39 b || is_byte_between 0x41 0x5a b || is_byte_between 0x61 0x7a b || b == 0x2e || b == 0x5f || b == 0x2d
 
 -- a byte of a name: itself, or `%` and two digits with capital letters
 unfoldable pub escape : ℕ → List ℕ
@@ -279,16 +281,20 @@ pub record AreListWords (words : List (List ℕ)) (coll : List ℕ) : Type 0 whe
   pub named : IsCollName coll
   pub whole : words ≡ codes "list" ∷ coll ∷ []
 
+-- the words say this read
+abbrev pub AreWordsOfRead : List (List ℕ) → Read → Type 0
+AreWordsOfRead words (reads.Bytes coll object off len) = AreReadWords words coll object off len
+AreWordsOfRead words (reads.Sum coll object) = AreObjectWords (codes "sum") words coll object
+AreWordsOfRead words (reads.Stat coll object) = AreObjectWords (codes "stat") words coll object
+AreWordsOfRead words (reads.GetAttr coll object name) = AreValueWords (codes "getattr") words coll object name
+AreWordsOfRead words (reads.OmapGet coll object key) = AreValueWords (codes "omapget") words coll object key
+AreWordsOfRead words (reads.OmapHeader coll object) = AreObjectWords (codes "omaphdr") words coll object
+AreWordsOfRead words (reads.List coll) = AreListWords words coll
+
 -- the words say this
 abbrev pub AreWordsOf : List (List ℕ) → What → Type 0
 AreWordsOf words (Command (command.Change change)) = AreChangeWords words change
-AreWordsOf words (Command (command.Read coll object off len)) = AreReadWords words coll object off len
-AreWordsOf words (Command (command.Sum coll object)) = AreObjectWords (codes "sum") words coll object
-AreWordsOf words (Command (command.Stat coll object)) = AreObjectWords (codes "stat") words coll object
-AreWordsOf words (Command (command.GetAttr coll object name)) = AreValueWords (codes "getattr") words coll object name
-AreWordsOf words (Command (command.OmapGet coll object key)) = AreValueWords (codes "omapget") words coll object key
-AreWordsOf words (Command (command.OmapHeader coll object)) = AreObjectWords (codes "omaphdr") words coll object
-AreWordsOf words (Command (command.List coll)) = AreListWords words coll
+AreWordsOf words (Command (command.Read read)) = AreWordsOfRead words read
 AreWordsOf words Wait = words ≡ codes "wait" ∷ []
 
 -- the operations that the kernel can do so far: all but clones

@@ -8,9 +8,9 @@ use Rattle.script_text.specs.declared.change.SpelledOp.TheVariants as spelled
 use Rattle.script_text.specs.declared.data.Spelled.{Spelled}
 use Rattle.script_text.specs.declared.data.Spelled.TheVariants.{Hex, Fill}
 use Rattle.script_text.specs.declared.line.What.{What}
-use Rattle.script_text.specs.declared.line.What.TheVariants.{Command}
+use Rattle.script_text.specs.declared.line.What.TheVariants.{Command, Wait}
 use Rattle.script_text.specs.declared.said.Kept.{Kept}
-use Rattle.script_text.specs.declared.said.Kept.TheVariants.{Change, Other}
+use Rattle.script_text.specs.declared.said.Kept.TheVariants.{Change, Read, Wait as Waits}
 
 -- the bytes of data that aren't written out
 abbrev pub spelled_bytes : Spelled → List ℕ
@@ -28,14 +28,10 @@ spelled_op (spelled.Other o) = o
 -- what is said
 abbrev pub kept_what : Kept → What
 kept_what (Change change) = Command (command.Change change)
-kept_what (Other what) = what
+kept_what (Read read) = Command (command.Read read)
+kept_what Waits = Wait
 
 -- a read or a `wait`
 abbrev pub IsNoChange : What → Type 0
 IsNoChange (Command (command.Change change)) = ⊥
 IsNoChange what = Unit {0}
-
--- each transaction is kept as one
-abbrev pub IsKeptWhole : Kept → Type 0
-IsKeptWhole (Change change) = Unit {0}
-IsKeptWhole (Other what) = IsNoChange what

@@ -144,7 +144,7 @@ Ends P old new = (texts : List (List ℕ)) (text : List ℕ) → AreGood texts o
     → MatchOption new.bad (AreGood (texts ++ (text ∷ [])) new.parser) (IsBadBehind texts text)
 
 -- the bytes are good lines, and a last one that isn't ended
-pub record IsWithin (bytes : List ℕ) (r : Reader) : Type 0 where
+pub record IsReadSoFar (bytes : List ℕ) (r : Reader) : Type 0 where
   pub texts : List (List ℕ)
   pub good : AreGood texts r.parser
   pub count : r.count ≡ length texts
@@ -156,18 +156,18 @@ pub record IsWithin (bytes : List ℕ) (r : Reader) : Type 0 where
 
 -- what a reader is that has taken these bytes: its bad line is bad however the script goes on
 abbrev pub IsAfter : List ℕ → Reader → Type 0
-IsAfter bytes r = MatchOption r.bad (IsWithin bytes r) (λ n. (more : List ℕ) → IsBadAt (bytes ++ more) n)
+IsAfter bytes r = MatchOption r.bad (IsReadSoFar bytes r) (λ n. (more : List ℕ) → IsBadAt (bytes ++ more) n)
 
 -- the reader takes a piece
-abbrev pub Takes : List ℕ → Reader → Reader → Type 0
-Takes piece old new = (bytes : List ℕ) → length (bytes ++ piece) ≤ script_limit → IsAfter bytes old → IsAfter (bytes ++ piece) new
+abbrev pub TakesPiece : List ℕ → Reader → Reader → Type 0
+TakesPiece piece old new = (bytes : List ℕ) → length (bytes ++ piece) ≤ script_limit → IsAfter bytes old → IsAfter (bytes ++ piece) new
 
 -- the reader has taken a piece up to this rest of it
 pub record HasTaken (piece rest : List ℕ) (old new : Reader) : Type 0 where
   pub front : List ℕ
   pub whole : piece ≡ front ++ rest
   pub count : new.count ≤ old.count + length front
-  pub takes : Takes front old new
+  pub takes : TakesPiece front old new
 
 -- these bytes were taken of a source
 abbrev pub IsReadFrom : Option (List ℕ) → List ℕ → Option (List ℕ) → Type 0
@@ -175,9 +175,9 @@ IsReadFrom None bytes new = new ≡ None
 IsReadFrom (Some whole) bytes new = (rest : List ℕ) × (new ≡ Some rest) × (whole ≡ bytes ++ rest)
 
 -- how reading ended: at the end of the source, or at the limit
-abbrev pub EndsBy : Bool → Option (List ℕ) → List ℕ → Type 0
-EndsBy true new bytes = IfSome new (λ left. left ≡ [])
-EndsBy false new bytes = length bytes ≡ script_limit
+abbrev pub ReadingEnds : Bool → Option (List ℕ) → List ℕ → Type 0
+ReadingEnds true new bytes = IfSome new (λ left. left ≡ [])
+ReadingEnds false new bytes = length bytes ≡ script_limit
 
 -- these bytes were taken of a source, and a reader has them
 pub record WasReadUpTo (old new : Option (List ℕ)) (r : Reader) (end : Bool) : Type 0 where
@@ -186,7 +186,7 @@ pub record WasReadUpTo (old new : Option (List ℕ)) (r : Reader) (end : Bool) :
   pub after : IsAfter bytes r
   pub small : length bytes ≤ script_limit
   pub count : r.count ≤ script_limit
-  pub ends : EndsBy end new bytes
+  pub ends : ReadingEnds end new bytes
 
 -- with so many bytes left to the limit
 pub record IsReadingOn (old new : Option (List ℕ)) (r : Reader) (left : ℕ) : Type 0 where

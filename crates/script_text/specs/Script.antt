@@ -2,7 +2,7 @@
 use Rattle.std.specs.Prelude.{◌≡◌, ◌⊎◌, ℕ, ◌+◌, ◌<◌, ◌≤◌, ◌==◌, if◌then◌else◌, List, [], ◌∷◌, ◌++◌, length, Option, Some, None, IsSome, IfSome}
 use Rattle.std.specs.List.{AllByRecursion}
 use Rattle.script_text.specs.Grammar.{command_count}
-use Rattle.script_text.specs.Blocks.{Says, EachSays, Parse, start, next, after}
+use Rattle.script_text.specs.Blocks.{Says, EachSays, Parse, start, next, parse_after}
 use Rattle.script_text.specs.declared.grammar.Statement.{Statement}
 use Rattle.script_text.specs.declared.line.Line.{Line}
 
@@ -39,7 +39,7 @@ pub record AreGood (texts : List (List ℕ)) (parse : Parse) : Type 0 where
   pub statements : List Statement
   pub says : EachSays texts statements
   pub short : AllByRecursion (λ text. length text ≤ line_limit) texts
-  pub grouped : after 1 (Some start) statements ≡ Some parse
+  pub grouped : parse_after 1 (Some start) statements ≡ Some parse
 
 -- the bytes are a script of these commands and `wait`s
 pub record IsScript (bytes : List ℕ) (lines : List Line) : Type 0 where

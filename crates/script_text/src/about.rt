@@ -7,12 +7,12 @@ ghost use Rattle.script_text.specs.Grammar.{IsLineOf};
 ghost use Rattle.script_text.specs.About.{coll_word, coll_says, object_word, object_says, value_word, value_says};
 ghost use Rattle.script_text.specs.Reading.{Finds};
 
+use crate::Said;
 use crate::fail::WordFail;
 use crate::grammar::{read_coll, read_object};
 use crate::split::is_text;
 use crate::values::read_value;
-use crate::{Said, What};
-use object_model::{Command, Op};
+use object_model::{Op, Read};
 use std::alloc::Global;
 use unit_fields::{CollName, Name};
 
@@ -46,7 +46,7 @@ fn said_of_coll(alloc: Global, word: CollWord, coll: CollName) -> Said
     match word {
         CollWord::MkColl => Said::op(alloc, coll, Op::MkColl),
         CollWord::RmColl => Said::op(alloc, coll, Op::RmColl),
-        CollWord::List => Said::of(What::Command(Command::List { coll })),
+        CollWord::List => Said::read(Read::List { coll }),
     }
 }
 
@@ -102,9 +102,9 @@ fn said_of_object(alloc: Global, word: ObjectWord, coll: CollName, object: Name)
         ObjectWord::Remove => Said::op(alloc, coll, Op::Remove { object }),
         ObjectWord::RmAttrs => Said::op(alloc, coll, Op::RmAttrs { object }),
         ObjectWord::OmapClear => Said::op(alloc, coll, Op::OmapClear { object }),
-        ObjectWord::Sum => Said::of(What::Command(Command::Sum { coll, object })),
-        ObjectWord::Stat => Said::of(What::Command(Command::Stat { coll, object })),
-        ObjectWord::OmapHdr => Said::of(What::Command(Command::OmapHeader { coll, object })),
+        ObjectWord::Sum => Said::read(Read::Sum { coll, object }),
+        ObjectWord::Stat => Said::read(Read::Stat { coll, object }),
+        ObjectWord::OmapHdr => Said::read(Read::OmapHeader { coll, object }),
     }
 }
 
@@ -145,12 +145,12 @@ fn said_of_value(alloc: Global, word: ValueWord, coll: CollName, object: Name, n
 {
     match word {
         ValueWord::RmAttr => Said::op(alloc, coll, Op::RmAttr { object, name }),
-        ValueWord::GetAttr => Said::of(What::Command(Command::GetAttr { coll, object, name })),
-        ValueWord::OmapGet => Said::of(What::Command(Command::OmapGet {
+        ValueWord::GetAttr => Said::read(Read::GetAttr { coll, object, name }),
+        ValueWord::OmapGet => Said::read(Read::OmapGet {
             coll,
             object,
             key: name,
-        })),
+        }),
     }
 }
 

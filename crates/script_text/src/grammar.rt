@@ -5,6 +5,7 @@ ghost use Rattle.script_text.specs.Grammar.{HasNo, IsDataWord, IsLineOf, IsNameW
 ghost use Rattle.script_text.specs.Blocks.{Says};
 ghost use Rattle.script_text.specs.Reading.{AreGoodWords, Finds, IsOtherThanWhole, NamesObject, NamesRange, NamesSize};
 
+use crate::Said;
 use crate::about::{
     read_about_coll, read_about_object, read_about_value, read_coll_word, read_object_word,
     read_value_word,
@@ -17,8 +18,7 @@ use crate::fail::WordFail;
 use crate::number::read_number;
 use crate::split::{four_words, is_text, split_once, three_words, two_words};
 use crate::values::read_value_words;
-use crate::{Said, What};
-use object_model::{Command, Op};
+use object_model::{Op, Read};
 use std::alloc::{AllocError, Global};
 use unit_fields::{CollName, Name};
 
@@ -112,12 +112,12 @@ fn read_read(alloc: Global, rest: &[u8]) -> Result<Said, WordFail>
     ensures { Finds (IsLineOf (codes "read" ++ (0x20 ∷ rest.now))) result }
 {
     let (coll, object, off, len) = read_range(alloc, rest)?;
-    Ok(Said::of(What::Command(Command::Read {
+    Ok(Said::read(Read::Bytes {
         coll,
         object,
         off,
         len,
-    })))
+    }))
 }
 
 /// `zero C O NUM NUM`: what a line says that has this behind its first word.
@@ -210,7 +210,7 @@ fn read_line(alloc: Global, text: &[u8]) -> Result<Said, WordFail>
 {
     match split_once(text, b' ') {
         Some((word, rest)) => read_words(alloc, word, rest),
-        None if is_text(text, b"wait") => Ok(Said::of(What::Wait)),
+        None if is_text(text, b"wait") => Ok(Said::wait()),
         None => Err(WordFail::NotSpelled),
     }
 }

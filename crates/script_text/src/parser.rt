@@ -4,7 +4,7 @@ ghost use Rattle.object_model.specs.declared.command.Command.TheVariants.{Change
 ghost use Rattle.script_text.specs.declared.grammar.Statement.TheVariants.{Begin, End, Says};
 ghost use Rattle.script_text.specs.declared.line.What.TheVariants.{Command as Commands};
 ghost use Rattle.script_text.specs.Grammar.{is_wait};
-ghost use Rattle.script_text.specs.Blocks.{ends_in_wait, start, one_more, counted, with_line, together, outside, inside, next};
+ghost use Rattle.script_text.specs.Blocks.{ends_in_wait, start, one_command_more, statement_counted, with_line, together, outside, inside, next};
 ghost use Rattle.script_text.specs.Reading.{Becomes};
 
 use crate::change::KeptChange;
@@ -84,7 +84,7 @@ impl Parser {
 
     /// Counts a command. False if it is one too many.
     fn count_command(&mut self) -> bool
-        ensures { Becomes (one_more self.old) result self.new }
+        ensures { Becomes (one_command_more self.old) result self.new }
     {
         if self.commands_left == 0 {
             return false;
@@ -95,7 +95,7 @@ impl Parser {
 
     /// Counts what is said outside of a block, unless it is a `wait`. False if it is a command too many.
     fn count(&mut self, what: &Said) -> bool
-        ensures { Becomes (counted what.now self.old) result self.new }
+        ensures { Becomes (statement_counted what.now self.old) result self.new }
     {
         what.is_wait() || self.count_command()
     }

@@ -3,7 +3,7 @@ ghost use Rattle.std.specs.Prelude.{◌≡◌, ◌+◌, ◌<◌, ◌≤◌, ◌+
 ghost use Rattle.script_text.specs.Grammar.{HasNo};
 ghost use Rattle.script_text.specs.Script.{script_limit, IsScript, IsBadAt};
 ghost use Rattle.script_text.specs.Blocks.{Says};
-ghost use Rattle.script_text.specs.Reading.{Finds, Ends, Takes, IsAfter, IsAtEnd, IfLine};
+ghost use Rattle.script_text.specs.Reading.{Finds, Ends, TakesPiece, IsAfter, IsAtEnd, IfLine};
 
 use crate::fail::WordFail;
 use crate::grammar::{Statement, read_statement};
@@ -78,7 +78,7 @@ impl Reader {
     fn take_feed(&mut self, alloc: Global) -> Result<(), AllocError>
         requires { self.old.count ≤ script_limit }
         ensures count { OnOk result (self.new.count ≤ self.old.count + 1) }
-        ensures takes { OnOk result (Takes (10 ∷ []) self.old self.new) }
+        ensures takes { OnOk result (TakesPiece (10 ∷ []) self.old self.new) }
     {
         if self.bad.is_some() {
             return Ok(());
@@ -91,7 +91,7 @@ impl Reader {
         requires count { self.old.count ≤ script_limit }
         requires line { HasNo 10 bytes.now }
         ensures count { OnOk result (self.new.count ≡ self.old.count) }
-        ensures takes { OnOk result (Takes bytes.now self.old self.new) }
+        ensures takes { OnOk result (TakesPiece bytes.now self.old self.new) }
     {
         if self.bad.is_some() {
             return Ok(());
@@ -108,7 +108,7 @@ impl Reader {
     pub fn take(&mut self, alloc: Global, piece: &[u8]) -> Result<(), AllocError>
         requires { self.old.count + length piece.now ≤ script_limit }
         ensures count { OnOk result (self.new.count ≤ self.old.count + length piece.now) }
-        ensures takes { OnOk result (Takes piece.now self.old self.new) }
+        ensures takes { OnOk result (TakesPiece piece.now self.old self.new) }
     {
         if self.bad.is_some() {
             return Ok(());

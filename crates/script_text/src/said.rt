@@ -1,13 +1,13 @@
 //! What a line or a block says, as it is kept until it is used.
 ghost use Rattle.std.specs.Prelude.{◌≡◌, IfOk, MatchOption};
-ghost use Rattle.object_model.specs.declared.command.Command.TheVariants.{Change};
-ghost use Rattle.script_text.specs.declared.line.What.TheVariants.{Command as Commands};
+ghost use Rattle.object_model.specs.declared.command.Command.TheVariants.{Change, Read as Reads};
+ghost use Rattle.script_text.specs.declared.line.What.TheVariants.{Command as Commands, Wait};
 ghost use Rattle.script_text.specs.Grammar.{is_wait, op_line};
 ghost use Rattle.script_text.specs.Kept.{IsNoChange};
 
 use crate::What;
 use crate::change::{KeptChange, KeptOp};
-use object_model::{Command, Op};
+use object_model::{Command, Op, Read};
 use std::alloc::{AllocError, Global};
 use std::marker::Model;
 use unit_fields::CollName;
@@ -18,11 +18,12 @@ pub struct Said {
     kept: Kept,
 }
 
-/// A transaction with its data as they are spelled, or anything else.
+/// A transaction with its data as they are spelled, a read or a `wait`.
 #[derive(Drop)]
 enum Kept {
     Change(KeptChange),
-    Other(What),
+    Read(Read),
+    Wait,
 }
 
 impl Model for Said {
@@ -30,22 +31,26 @@ impl Model for Said {
 
     ghost Value = { What };
 
-    ghost use Rattle.script_text.specs.Kept.{kept_what, IsKeptWhole};
+    ghost use Rattle.script_text.specs.Kept.{kept_what};
 
     ghost view = { λ a. kept_what a.kept };
-
-    ghost invariant = { λ a. IsKeptWhole a.kept };
 }
 
 impl Said {
-    /// A read or a `wait`.
-    pub fn of(what: What) -> Said
-        requires { IsNoChange what }
-        ensures { result ≡ what }
+    /// A read.
+    pub fn read(read: Read) -> Said
+        ensures { result ≡ Commands (Reads read) }
     {
         Said {
-            kept: Kept::Other(what),
+            kept: Kept::Read(read),
         }
+    }
+
+    /// A `wait`.
+    pub fn wait() -> Said
+        ensures { result ≡ Wait }
+    {
+        Said { kept: Kept::Wait }
     }
 
     /// A transaction.
@@ -75,7 +80,7 @@ impl Said {
     pub fn is_wait(&self) -> bool
         ensures { result ≡ is_wait self.now }
     {
-        matches!(&self.kept, Kept::Other(What::Wait))
+        matches!(&self.kept, Kept::Wait)
     }
 
     /// The transaction, if it is one.
@@ -84,10 +89,11 @@ impl Said {
     {
         match self.kept {
             Kept::Change(change) => Some(change),
-            Kept::Other(what) => {
-                drop(what);
+            Kept::Read(read) => {
+                drop(read);
                 None
             }
+            Kept::Wait => None,
         }
     }
 
@@ -100,7 +106,8 @@ impl Said {
                 let change = change.into_transaction(alloc)?;
                 Ok(What::Command(Command::Change(change)))
             }
-            Kept::Other(what) => Ok(what),
+            Kept::Read(read) => Ok(What::Command(Command::Read(read))),
+            Kept::Wait => Ok(What::Wait),
         }
     }
 }

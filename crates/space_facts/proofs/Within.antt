@@ -11,7 +11,7 @@ use Rattle.meta_rows.proofs.SetLemmas.{row_sets_size}
 use Rattle.meta_rows.proofs.RowLemmas.{size-rows_after, rows_size-empty}
 use Rattle.meta_log.specs.Prelude.{unit_count, units_of_records, one_record, check_units}
 use Rattle.meta_log.proofs.SealLemmas.{length-record_bytes}
-use Rattle.store_steps.specs.Prelude.{Intent, rows_by, ops_by, needs_by, RowsPart, joined, applied, rewritten, body_units, rows_units, NeedsEnough, AreRowsWithin}
+use Rattle.store_steps.specs.Prelude.{Intent, rows_by, ops_by, needs_by, RowsPart, with_accepted, applied, rewritten, body_units, rows_units, NeedsEnough, AreRowsWithin}
 use Rattle.space_facts.proofs.Rows.{rows_append, rows_by_ops}
 
 -- ---- units
@@ -102,7 +102,7 @@ within_opened p same le = record {
     more : (a b reserved : ℕ) → a ≡ b → a ≤ b + reserved
     more a b reserved same = omega (arith, same)
 
-pub within_joined : (p : RowsPart) (x : Intent) → NeedsEnough x → AreRowsWithin p → AreRowsWithin (joined x p)
+pub within_joined : (p : RowsPart) (x : Intent) → NeedsEnough x → AreRowsWithin p → AreRowsWithin (with_accepted x p)
 within_joined p x enough within = record {
   committed = within.committed;
   submitted = more (rows_units (rows_after p.submitted x.ops)) (rows_units p.submitted) (unit_count 0 x.ops) (rows_units p.rows) p.reserved x.need

@@ -10,7 +10,7 @@ ghost use Rattle.store_image.specs.Prelude.{IsDataUnit, IsMarked, IsLeaked, IsEx
 ghost use Rattle.unit_allocator.specs.Prelude.{Space, is_idle, free_units, taken, given};
 ghost use Rattle.plan_rows.specs.Prelude.{AreFreeOver, fresh_units, IsGood, Suits, PlanKeeps};
 ghost use Rattle.selections.specs.Fair.{under, IsFair, IsComplete, HasLast};
-ghost use Rattle.store_steps.specs.Prelude.{Intent, names_in, is_in, plan_of, rows_by, ops_by, released_by, EachIsPlanned, AreTakenApart, SpaceIsCounted, CanJoin, needs_by, RowsPart, joined, applied, rewritten, rows_units, NeedsEnough, AreRowsWithin};
+ghost use Rattle.store_steps.specs.Prelude.{Intent, names_in, is_in, plan_of, rows_by, ops_by, released_by, EachIsPlanned, AreTakenApart, SpaceIsCounted, CanJoin, needs_by, RowsPart, with_accepted, applied, rewritten, rows_units, NeedsEnough, AreRowsWithin};
 ghost use Rattle.space_facts.specs.Example.{two, no_rows};
 ghost use Rattle.space_facts.specs.Spaces.{HasDataUnits, HasOnlyDataUnits};
 ghost use Rattle.space_facts.specs.Owning.{OwnTheirUnits};
@@ -143,7 +143,7 @@ pub fn rows_are_no_longer_than_records()
 /// halves change places.
 pub fn rows_stay_within_the_log()
     ensures opened { (p : RowsPart) → p.submitted ≡ p.rows → rows_units p.rows ≤ p.tail → AreRowsWithin p }
-    ensures joined { (p : RowsPart) (x : Intent) → NeedsEnough x → AreRowsWithin p → AreRowsWithin (joined x p) }
+    ensures joined { (p : RowsPart) (x : Intent) → NeedsEnough x → AreRowsWithin p → AreRowsWithin (with_accepted x p) }
     ensures applied { (p : RowsPart) (number : ℕ) (front back : List Intent) → p.submitted ≡ rows_by p.rows (front ++ back)
         → p.reserved ≡ needs_by front + needs_by back → AllByRecursion NeedsEnough back → AreRowsWithin p
         → AreRowsWithin (applied number front back p) }

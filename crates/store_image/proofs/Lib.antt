@@ -1,6 +1,7 @@
 pub mod ByteLemmas
 pub mod OneObjects
 pub mod OwnedUnits
+pub mod InPlace
 pub mod PageMap
 pub mod PageUnits
 pub mod ChanceLemmas

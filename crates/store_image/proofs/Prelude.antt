@@ -6,3 +6,4 @@ pub use Rattle.store_image.proofs.PageMap.{in_place, one_place}
 pub use Rattle.store_image.proofs.PageUnits.{stands_still, on_own, own_of, page_owned}
 pub use Rattle.store_image.proofs.StartLemmas.{start_is_durable}
 pub use Rattle.store_image.proofs.ExactLemmas.{renamed, as_itself, is_left_out, exact_onward, no_inexact, as_image, stays_by_rows}
+pub use Rattle.store_image.proofs.InPlace.{Carries, carried, good_carried, data_too, none_bad_too, shard_placed}

@@ -19,26 +19,26 @@ use Rattle.plan_rows.specs.declared.plan.FreshUnit.{FreshUnit}
 use Rattle.plan_rows.specs.declared.plan.Plan.{Plan}
 use Rattle.plan_rows.specs.declared.plan.ReadUnit.{ReadUnit}
 use Rattle.plan_drafts.specs.Prelude.{IsKnown, fresh_units, PlanKeeps, PlanTakes}
-use Rattle.draft_rows.proofs.PlanLaws.{plans_keep, plans_short}
+use Rattle.plan_proofs.proofs.PlanLaws.{plans_keep, plans_short}
 use Rattle.store_steps.specs.declared.context.Context.{Context}
 use Rattle.store_steps.specs.declared.flight.Flying.{Flying}
 use Rattle.store_steps.specs.declared.flight.Switching.{Switching}
 use Rattle.store_steps.specs.Prelude.{State, CanNote, Accepts, accepted_with, need_of, memory_of, IsReadNow}
 use Rattle.run_facts.specs.Prelude.{IsKept}
 use Rattle.run_facts.proofs.Prelude.{kept_submitted, kept_free, submitted_short, fresh_not_in_memory}
-use Rattle.onode_state.specs.Objects.{AreRowsOfAStore, AreRowsOfWidth}
+use Rattle.object_rows.specs.Stores.{AreRowsOfAStore, AreRowsOfWidth}
 use Rattle.read_facts.specs.Prelude.{IsHeldAt, AreGoodPlaces}
 use Rattle.page_sources.specs.Prelude.{HasPlaceToRead, IsPlacesFail}
 use Rattle.page_sources.specs.declared.parts.PartFail.{PartFail}
 use Rattle.page_sources.specs.declared.parts.PartFail.TheVariants as part
-use Rattle.txn_planner.specs.declared.drafts.Draft.{Draft}
+use Rattle.txn_planner.specs.declared.drafts.TxnDraft.{TxnDraft}
 use Rattle.txn_planner.specs.declared.fails.PlanFail.{PlanFail}
 use Rattle.txn_planner.specs.declared.fails.PlanFail.TheVariants as fail
 use Rattle.txn_planner.specs.Drafts.{places_in, IsDraftFor}
 use Rattle.txn_planner.specs.PlanFails.{IsPlanFor, IsPlanFail}
 use Rattle.store_kernel.specs.declared.batch.OpenBatch.{OpenBatch}
-use Rattle.store_kernel.specs.declared.prepared.Prepared.{Prepared}
-use Rattle.txn_states.specs.States.{context_of}
+use Rattle.store_kernel.specs.declared.prepared.PreparedTxn.{PreparedTxn}
+use Rattle.txn_states.specs.States.{prepared_context}
 use Rattle.waiting_contexts.specs.Places.{IsAboveAll, context_at}
 use Rattle.waiting_contexts.proofs.TiedLemmas.{found_last, not_lost}
 use Rattle.store_kernel.proofs.Sending.{few_between}
@@ -80,7 +80,7 @@ no_draft s d change (fail.NoSpace need free) fails = fails
 no_draft s d change fail.Memory fails = tt
 
 -- why old bytes weren't read
-pub not_read : (s : State) (d : Disk) (change : Change) (memory : ℕ → Option (List ℕ)) (draft : Draft) (why : PartFail) → memory ≡ memory_of s
+pub not_read : (s : State) (d : Disk) (change : Change) (memory : ℕ → Option (List ℕ)) (draft : TxnDraft) (why : PartFail) → memory ≡ memory_of s
     → IsDraftFor (width_of s.log.sup) change s.submitted s.space draft → IsPlacesFail memory d (places_in draft) why
     → IsCauseOf (cause_of_read why) change s d
 not_read s d change memory draft (part.BadPage bad) same is fails = record {
@@ -192,12 +192,12 @@ module _ (m : meta.Meta) (submitted : Rows) (pending : List Context) (batch : Op
   abbrev before : State
   before = state_of m submitted pending batch switching flying down events space entries commits acked
 
-  module _ (client line : ℕ) (change : Change) (ready : Prepared) (d : Disk)
+  module _ (client line : ℕ) (change : Change) (ready : PreparedTxn) (d : Disk)
       (m' : meta.Meta) (submitted' : Rows) (pending' : List Context) (x : Context) (place : ℕ) (space' : Space) (entries' : List Entry)
       (can : CanNote before) (prepared : IsPrepared ready change before d)
       (is_meta : let after : meta.Meta = record m { reserved = m.reserved + ready.need } in m' ≡ after)
       (is_submitted : submitted' ≡ rows_after submitted ready.copy) (is_pending : pending' ≡ pending ++ x ∷ [])
-      (is_context : x ≡ context_of place ready.coll ready.plan ready.need) (is_place : place ≡ length entries)
+      (is_context : x ≡ prepared_context place ready.coll ready.plan ready.need) (is_place : place ≡ length entries)
       (is_space : space' ≡ taken space (map (λ (f : FreshUnit). f.unit) x.fresh))
       (is_entries : entries' ≡ entries ++ record { client = client; line = line; command = ask.Change change; answer = answer.Accepted; acks = acked } ∷ []) where
     -- the kernel's parts after it was accepted

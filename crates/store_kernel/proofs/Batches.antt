@@ -28,7 +28,7 @@ use Rattle.flight_facts.proofs.Prelude.{ArePicked, picked, all_picked, sum_picke
 use Rattle.run_facts.specs.Prelude.{AcksAre, IsKept}
 use Rattle.run_facts.proofs.Conditions.{pending_fits, needs_are}
 use Rattle.run_facts.proofs.Prelude.{ready_not_down, some_of, take_none, HasRecord, ReadyCommit, known_batch, known_commit, known_finish, data_within, space_given, back_data, back_in_turn}
-use Rattle.kv_worker.specs.Batches.{Takes, CanCommit, flushed_batch}
+use Rattle.kv_worker.specs.Batches.{TakesBatch, CanCommit, flushed_batch}
 use Rattle.store_image.specs.Prelude.{IsDataUnit}
 use Rattle.store_kernel.specs.declared.batch.OpenBatch.{OpenBatch}
 use Rattle.store_kernel.specs.Seen.{contexts_of, batch_of, is_sealed, IsStageOf}
@@ -145,7 +145,7 @@ noted commits xs i x below is =
     (sym (map-append commit_of (take i xs) (x ∷ []))
     ∙ ap (map commit_of) (sym (take_more xs i x below ∙ ap (λ (y : Context). take i xs ++ y ∷ []) (sym is))))
 
-pub take_does : (s : State) (d : Disk) (xs batch : List Context) → is_ready step.Take d.depth s ≡ true → NextFits s → Takes s.pending xs batch
+pub take_does : (s : State) (d : Disk) (xs batch : List Context) → is_ready step.Take d.depth s ≡ true → NextFits s → TakesBatch s.pending xs batch
     → OpensBatch s d (record s {
       pending = xs;
       batch = Some (record { contexts = batch; first = flush.NotSent; second = flush.NotSent });

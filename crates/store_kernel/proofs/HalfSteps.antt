@@ -1,18 +1,14 @@
 -- What the steps of a switch of halves ask of the device and of the metadata store, and what they do to the state.
-use Rattle.std.proofs.Common.{◌≡◌, ◌&&◌, ◌==◌, ℕ, ◌+◌, ◌*◌, ◌<◌, ◌≤◌, nat_lt, Bool, true, false, cond, List, [], ◌∷◌, ◌++◌, length, Option, Some, None, refl, sym, ap, subst, ◌∙◌, append-nil, arith}
+use Rattle.std.proofs.Common.{◌≡◌, ◌&&◌, ◌==◌, ℕ, ◌+◌, ◌*◌, ◌<◌, ◌≤◌, nat_lt, true, List, [], ◌∷◌, ◌++◌, length, Option, Some, None, refl, sym, ap, subst, arith}
 use Rattle.std.specs.Prelude.{MatchOption}
 use Rattle.std.specs.Option.{option_map}
-use Rattle.std.proofs.lemmas.Bool.{and_parts, le-ltb, ltb-true}
-use Rattle.byte_maps.specs.Units.{unit_at, zeros}
+use Rattle.std.proofs.lemmas.Bool.{and_parts, ltb-true}
 use Rattle.block_device.specs.Prelude.{Disk, Submitted, IsNotInFlight}
 use Rattle.block_device.specs.declared.device.Ticket.{Ticket}
 use Rattle.block_device.specs.declared.event.Event.TheVariants as event
-use Rattle.meta_rows.specs.declared.row_op.RowOp.{RowOp}
-use Rattle.meta_rows.specs.Prelude.{row_sets}
-use Rattle.meta_log.specs.Prelude.{record_units, units_of_records, one_record, check_units, other_unit, other_slot, next_super, super_bytes, IsSuper}
+use Rattle.meta_log.specs.Prelude.{check_units, other_unit, other_slot, next_super, super_bytes, IsSuper}
 use Rattle.meta_store.specs.Store as meta
-use Rattle.meta_store.specs.Checks.{IsCheckLeft, IsCheckWritten, IsNextCheck, LiesInOtherHalf, check_count, with_check_given, switched}
-use Rattle.log_facts.specs.Prelude.{target_unit}
+use Rattle.meta_store.specs.Checks.{IsCheckLeft, IsCheckWritten, IsNextCheck, LiesInOtherHalf, check_count, with_check_given, switched_log}
 use Rattle.store_steps.specs.declared.flight.FlushState.TheVariants as flush
 use Rattle.store_steps.specs.declared.flight.Job.{Job}
 use Rattle.store_steps.specs.declared.flight.Job.TheVariants as job
@@ -31,17 +27,6 @@ use Rattle.store_kernel.specs.Ends.{with_flush, with_slot, with_slot_flush}
 use Rattle.store_kernel.proofs.Sending.{CanWrite, table_of, room_where}
 
 -- ---- a piece of the checkpoint
-
--- each of its units is what the half is to hold there
-target_is : (number : ℕ) (ops : List RowOp) (k : ℕ)
-    → cond (nat_lt k (units_of_records number (one_record ops))) (unit_at k (record_units number ops)) (zeros 4096)
-    ≡ target_unit (units_of_records number (one_record ops)) number (one_record ops) k
-target_is number [] k =
-    let none : nat_lt k 0 ≡ false = le-ltb k 0 (omega arith) in
-    ap (λ (b : Bool). cond b (unit_at k (record_units number [])) (zeros 4096)) none ∙ sym (ap (λ (b : Bool). cond b (unit_at k []) (zeros 4096)) none)
-target_is number (op ∷ ops) k =
-    ap (λ (bytes : List ℕ). cond (nat_lt k (units_of_records number (one_record (op ∷ ops)))) (unit_at k bytes) (zeros 4096))
-    (sym (append-nil (record_units number (op ∷ ops))))
 
 -- one is left
 pub check_left : (s : State) (d : Disk) → is_ready CheckWrite d.depth s ≡ true → IsCheckLeft s.log
@@ -86,7 +71,7 @@ check_does s d d' unit bytes t next lies submitted = record {
   bytes = bytes;
   target = record {
     size = next.size;
-    each = λ j below. next.bytes_are j below ∙ target_is s.log.number (row_sets s.log.rows) ((next.run).first + j);
+    each = next.bytes_are;
   };
   submitted = subst (λ (u : ℕ). Submitted d t.place (event.Write u bytes) d') next.unit_is submitted;
   after = ap (λ (o : Option meta.Checking). let later : State = record s {
@@ -198,6 +183,6 @@ check_all_written s d kept ready =
     let ended = ended_all s w.0 opened (test_of (λ (v : Switching). is_flushed v.slot_flush) s.switching w.0 w.1 table) in
     subst (λ (o : Option meta.Checking). MatchOption o ⊥ (λ c. c.written ≡ check_count s.log)) (sym opened.check) (ended.0).1
 
-pub switch_does : (s : State) (d : Disk) (m : meta.Meta) → m ≡ switched s.log → DoesSwitch s d (record s { log = m; switching = None }) d
+pub switch_does : (s : State) (d : Disk) (m : meta.Meta) → m ≡ switched_log s.log → DoesSwitch s d (record s { log = m; switching = None }) d
 switch_does s d m made =
     record { same = refl; after = ap (λ (l : meta.Meta). let later : State = record s { log = l; switching = None } in later) made }

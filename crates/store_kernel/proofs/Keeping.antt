@@ -3,13 +3,12 @@ use Rattle.std.proofs.Common.{◌≡◌, inl, inr, ℕ, true, Option, refl, sym,
 use Rattle.std.proofs.Math.Path.{fun_ext}
 use Rattle.block_device.specs.Prelude.{Disk, IsSound}
 use Rattle.object_model.specs.Prelude.{Change}
-use Rattle.object_model.specs.declared.command.Command.{Command}
+use Rattle.object_model.specs.declared.command.Read.{Read}
 use Rattle.object_model.specs.declared.command.Answer.{Answer}
-use Rattle.draft_rows.proofs.PlanLaws.{plans_keep}
+use Rattle.plan_proofs.proofs.PlanLaws.{plans_keep}
 use Rattle.store_steps.specs.declared.step.Step.{Step}
 use Rattle.store_steps.specs.Prelude.{State, is_ready, Accepts, Refuses, submitting, reading, stepping, DoesOrFails, Submits, AnswersRead, memory_of}
 use Rattle.plan_drafts.specs.Prelude.{IsKnown}
-use Rattle.read_facts.specs.Prelude.{IsKnownRead}
 use Rattle.write_buffers.specs.declared.buffers.WriteBuffers.{WriteBuffers}
 use Rattle.write_buffers.specs.Prelude.{memory_in}
 use Rattle.run_facts.proofs.Prelude.{kept_step, kept_accept, kept_refuse, kept_answer}
@@ -53,11 +52,11 @@ known_refuse w b s s' d client line change a known known_ops refuses = record {
 }
 
 -- an answer to a read changes nothing but the book
-pub known_answer : (w : WriteBuffers) (b : Option OpenBatch) (s s' : State) (d : Disk) (client line : ℕ) (command : Command) (a : Answer) → KnownOfKernel w b s d → IsKnownRead command
-    → AnswersRead client line command a s d s' → KnownOfKernel w b s' d
-known_answer w b s s' d client line command a known may is = record {
-  kept = kept_answer s s' d client line command a known.kept is;
-  durable = call_keeps (reading client line command) s s' d d plans_keep known.kept known.kept.always.device known.durable (may, inl (a, is), refl);
+pub known_answer : (w : WriteBuffers) (b : Option OpenBatch) (s s' : State) (d : Disk) (client line : ℕ) (read : Read) (a : Answer) → KnownOfKernel w b s d
+    → AnswersRead client line read a s d s' → KnownOfKernel w b s' d
+known_answer w b s s' d client line read a known is = record {
+  kept = kept_answer s s' d client line read a known.kept is;
+  durable = call_keeps (reading client line read) s s' d d plans_keep known.kept known.kept.always.device known.durable (inl (a, is), refl);
   stage = subst (λ (t : State). IsStageOf t.log.begun b) (sym is.after) known.stage;
   memory = known.memory ∙ sym (ap memory_of is.after);
 }

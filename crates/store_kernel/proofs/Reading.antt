@@ -6,7 +6,7 @@ use Rattle.meta_log.specs.Prelude.{width_of}
 use Rattle.object_model.specs.Prelude.{Change}
 use Rattle.row_format.specs.Prelude.{Place, own}
 use Rattle.store_image.specs.Prelude.{HasPage, IsDataUnit}
-use Rattle.plan_drafts.specs.Prelude.{own_units, AsksFor}
+use Rattle.plan_drafts.specs.Prelude.{units_read, AsksFor}
 use Rattle.page_sources.specs.Prelude.{CanReadPlace, CanReadPlaces}
 use Rattle.store_steps.specs.Prelude.{State, memory_of}
 use Rattle.run_facts.specs.Prelude.{IsKept}
@@ -29,7 +29,7 @@ readable s d memory kept up same = subst (λ (m : ℕ → Option (List ℕ)). Is
 
 -- so can units be read on which pages of submitted rows stand
 can_read_each : (s : State) (d : Disk) → IsKept s d → s.down ≡ None → (places : List Place)
-    → AllByRecursion (HasPage (width_of s.log.sup) s.submitted) (flat_map own_units places) → AllByRecursion (CanReadPlace (memory_of s) d) places
+    → AllByRecursion (HasPage (width_of s.log.sup) s.submitted) (flat_map units_read places) → AllByRecursion (CanReadPlace (memory_of s) d) places
 can_read_each s d kept up [] have = tt
 can_read_each s d kept up (own unit csum ∷ places) have =
     let on : IsDataUnit s.log.sup unit = page_on_data s d kept up unit have.0 in

@@ -25,7 +25,7 @@ use Rattle.store_kernel.specs.declared.batch.OpenBatch.{OpenBatch}
 use Rattle.txn_states.specs.declared.next_write.NextWrite.{NextWrite}
 use Rattle.txn_states.specs.Writes.{IsWrite}
 use Rattle.waiting_contexts.specs.Unsent.{IsOfNext}
-use Rattle.kv_worker.specs.Batches.{CanSeal, ops_of}
+use Rattle.kv_worker.specs.Batches.{CanSeal, ops_of_batch}
 use Rattle.store_kernel.specs.Seen.{contexts_of, batch_of}
 use Rattle.store_kernel.specs.Ends.{with_first, with_second}
 
@@ -172,7 +172,7 @@ can_seal s d m b kept ready batch log =
     })
 
 pub seal_does : (s : State) (d : Disk) (m m' : meta.Meta) (b : OpenBatch) (xs : List Context) → s.batch ≡ Some (batch_of b) → s.log ≡ m
-    → m' ≡ meta.with_begun m (ops_of (contexts_of b.stage)) → xs ≡ contexts_of b.stage
+    → m' ≡ meta.with_begun m (ops_of_batch (contexts_of b.stage)) → xs ≡ contexts_of b.stage
     → DoesSeal s d (record s { log = m'; batch = Some (record { contexts = xs; first = b.first; second = b.second }) }) d
 seal_does s d m m' b xs batch log made same = record {
   batch = batch_of b;
@@ -182,7 +182,7 @@ seal_does s d m m' b xs batch log made same = record {
       ap (λ (ys : List Context). let later : State = record s { log = m'; batch = Some (record { contexts = ys; first = b.first; second = b.second }) } in later) same
       ∙ ap (λ (o : Option Batch). let later : State = record s { log = m'; batch = o } in later) (sym batch)
       ∙ ap (λ (l : meta.Meta). let later : State = record s { log = l } in later)
-      (made ∙ ap (λ (l : meta.Meta). meta.with_begun l (ops_of (contexts_of b.stage))) (sym log));
+      (made ∙ ap (λ (l : meta.Meta). meta.with_begun l (ops_of_batch (contexts_of b.stage))) (sym log));
 }
 
 -- ---- Record
@@ -192,7 +192,7 @@ pub record IsPieceOf (l : meta.Meta) (unit : ℕ) (bytes : List ℕ) : Type 0 wh
   pub writing : meta.Begun
   pub begun : l.begun ≡ Some writing
   pub unit_is : unit ≡ piece_unit l writing
-  pub bytes_are : bytes ≡ steps.piece_bytes l.number writing
+  pub bytes_are : bytes ≡ steps.begun_piece_bytes l.number writing
 
 pub piece_of : (l : meta.Meta) (m : meta.Meta) (unit : ℕ) (bytes : List ℕ) → l ≡ m → meta.IsNextPiece m unit bytes → IsPieceOf l unit bytes
 piece_of l m unit bytes log next = subst (λ (k : meta.Meta). IsPieceOf k unit bytes) (sym log) (record {
@@ -206,7 +206,7 @@ pub can_write_record : (s : State) (d : Disk) (m : meta.Meta) (unit : ℕ) (byte
     → s.log ≡ m → meta.IsNextPiece m unit bytes → meta.LiesBehindTail m unit bytes → CanWrite d unit (length bytes)
 can_write_record s d m unit bytes kept ready log next lies =
     let piece : IsPieceOf s.log unit bytes = piece_of s.log m unit bytes log next in
-    let free : IsNotInFlight d (piece_unit s.log piece.writing) (length (steps.piece_bytes s.log.number piece.writing)) =
+    let free : IsNotInFlight d (piece_unit s.log piece.writing) (length (steps.begun_piece_bytes s.log.number piece.writing)) =
     next_piece_untouched s d piece.writing kept ready piece.begun in
     record {
       room = known_record_room s d kept ready;
@@ -215,7 +215,7 @@ can_write_record s d m unit bytes kept ready log next lies =
       whole = lies.whole;
       inside = omega (arith, lies.in_log, ap (λ (l : meta.Meta). l.sup.half) log, ap (λ (l : meta.Meta). l.sup.units) log, kept.always.units, kept.always.limits.room);
       free = subst (λ (b : List ℕ). IsNotInFlight d unit (length b)) (sym piece.bytes_are)
-          (subst (λ (u : ℕ). IsNotInFlight d u (length (steps.piece_bytes s.log.number piece.writing))) (sym piece.unit_is) free);
+          (subst (λ (u : ℕ). IsNotInFlight d u (length (steps.begun_piece_bytes s.log.number piece.writing))) (sym piece.unit_is) free);
     }
 
 pub record_does : (s : State) (d d' : Disk) (m : meta.Meta) (unit : ℕ) (bytes : List ℕ) (t : Ticket) → s.log ≡ m

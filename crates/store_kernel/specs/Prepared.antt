@@ -8,7 +8,7 @@ use Rattle.read_facts.specs.Prelude.{IsNotRefused}
 use Rattle.plan_rows.specs.declared.plan.Plan.{Plan}
 use Rattle.store_steps.specs.Prelude.{State, need_of, room_of, IsReadNow}
 use Rattle.plan_drafts.specs.Prelude.{places_of, Plans}
-use Rattle.store_kernel.specs.declared.prepared.Prepared.{Prepared}
+use Rattle.store_kernel.specs.declared.prepared.PreparedTxn.{PreparedTxn}
 
 -- plain objects of the submitted rows' shape don't refuse the transaction, and this is its plan, over old bytes that were read of places of which none is bad
 pub record IsPlanOf (change : Change) (s : State) (d : Disk) (plan : Plan) : Type 0 where
@@ -17,7 +17,7 @@ pub record IsPlanOf (change : Change) (s : State) (d : Disk) (plan : Plan) : Typ
   pub read : IsReadNow s d (places_of change.ops plans.start) plan
 
 -- what it needs fits, and the copies are copies
-pub record IsPrepared (ready : Prepared) (change : Change) (s : State) (d : Disk) : Type 0 where
+pub record IsPrepared (ready : PreparedTxn) (change : Change) (s : State) (d : Disk) : Type 0 where
   pub plan : IsPlanOf change s d ready.plan
   pub need : ready.need ≡ need_of s.log ready.plan
   pub fits : need_of s.log ready.plan ≤ room_of s.log

@@ -1,6 +1,6 @@
 -- What comes of a read that isn't answered.
 use Rattle.std.specs.Prelude.{◌≡◌}
-use Rattle.object_model.specs.declared.command.Command.{Command}
+use Rattle.object_model.specs.declared.command.Read.{Read}
 use Rattle.store_steps.specs.Prelude.{State, IsDownBy, IsBookFull}
 use Rattle.store_kernel.specs.ToRead.{AskNeedsDevice}
 use Rattle.store_kernel.specs.declared.unanswered.Unanswered.{Unanswered}
@@ -8,13 +8,13 @@ use Rattle.store_kernel.specs.declared.unanswered.Unanswered.TheVariants as why
 use Rattle.store_kernel.specs.declared.unanswered.WalkFail.{WalkFail}
 use Rattle.store_kernel.specs.declared.unanswered.WalkFail.TheVariants as walk
 
--- Nothing changes, and the command comes back: the kernel is down, its book is full, memory ran out, or the device failed, which it can only
+-- Nothing changes, and the read comes back: the kernel is down, its book is full, memory ran out, or the device failed, which it can only
 -- where it has to be read.
-abbrev pub UnansweredBy : Unanswered → Command → State → State → Type 0
-UnansweredBy (why.Down ticket back) command s s' = IsDownBy ticket s × (s' ≡ s) × (back ≡ command)
-UnansweredBy (why.BookFull back) command s s' = IsBookFull s × (s' ≡ s) × (back ≡ command)
-UnansweredBy (why.DeviceRead back) command s s' = (s' ≡ s) × (back ≡ command) × AskNeedsDevice command s
-UnansweredBy (why.Memory back) command s s' = (s' ≡ s) × (back ≡ command)
+abbrev pub UnansweredBy : Unanswered → Read → State → State → Type 0
+UnansweredBy (why.Down ticket back) read s s' = IsDownBy ticket s × (s' ≡ s) × (back ≡ read)
+UnansweredBy (why.BookFull back) read s s' = IsBookFull s × (s' ≡ s) × (back ≡ read)
+UnansweredBy (why.DeviceRead back) read s s' = (s' ≡ s) × (back ≡ read) × AskNeedsDevice read s
+UnansweredBy (why.Memory back) read s s' = (s' ≡ s) × (back ≡ read)
 
 abbrev pub IsDeviceRead : Unanswered → Type 0
 IsDeviceRead (why.DeviceRead back) = Unit {0}

@@ -4,6 +4,7 @@ use Rattle.meta_log.specs.Prelude.{width_of}
 use Rattle.object_model.specs.Prelude.{Change}
 use Rattle.object_model.specs.declared.command.Command.{Command}
 use Rattle.object_model.specs.declared.command.Command.TheVariants as ask
+use Rattle.object_model.specs.declared.command.Read.{Read}
 use Rattle.row_format.specs.Prelude.{Place}
 use Rattle.read_facts.specs.Prelude.{IsNotRefused}
 use Rattle.plan_drafts.specs.Prelude.{AsksFor}
@@ -21,10 +22,10 @@ pub record ChangeNeedsDevice (change : Change) (s : State) : Type 0 where
   pub to_read : HasPlaceToRead (memory_of s) places
 
 -- A read asks for bytes of a page that stands on such a unit.
-abbrev pub AskNeedsDevice : Command → State → Type 0
-AskNeedsDevice command s = ReadNeedsDevice (width_of s.log.sup) (memory_of s) s.submitted command
+abbrev pub AskNeedsDevice : Read → State → Type 0
+AskNeedsDevice read s = ReadNeedsDevice (width_of s.log.sup) (memory_of s) s.submitted read
 
 -- a command can be answered only once the device is read for it
 abbrev pub NeedsDevice : Command → State → Type 0
 NeedsDevice (ask.Change change) s = ChangeNeedsDevice change s
-NeedsDevice read s = AskNeedsDevice read s
+NeedsDevice (ask.Read read) s = AskNeedsDevice read s

@@ -1,19 +1,19 @@
 //! Why a read has no answer.
 
 use block_device::Ticket;
-use object_model::Command;
+use object_model::Read;
 
-/// Why a read was not answered. Nothing was noted, and the command comes back.
+/// Why a read was not answered. Nothing was noted, and the read comes back.
 #[derive(Drop)]
 pub enum Unanswered {
     /// The kernel is down, since the submission with this ticket ended badly.
-    Down { ticket: Ticket, back: Command },
+    Down { ticket: Ticket, back: Read },
     /// The book has as many entries as it may have.
-    BookFull(Command),
+    BookFull(Read),
     /// The device failed at a read, and has counted it.
-    DeviceRead(Command),
+    DeviceRead(Read),
     /// Memory ran out.
-    Memory(Command),
+    Memory(Read),
 }
 
 /// Why a walk can't go on.

@@ -157,7 +157,7 @@ committed_batch b s = record s { log = log_after b s.log; batch = None; space = 
 
 -- The halves have changed places: the checkpoint's record, if there are rows, is the log, and what stood in the other half until now is stale.
 abbrev pub switched : State → State
-switched s = record s { log = checks.switched s.log; switching = None }
+switched s = record s { log = checks.switched_log s.log; switching = None }
 
 -- the first of these commits that isn't acknowledged is acknowledged now
 abbrev pub acknowledged : ℕ → List Commit → List Commit

@@ -21,7 +21,7 @@ abbrev pub Spares : Event → List FreshUnit → Type 0
 Spares e fresh = AllByRecursion (λ f. ¬ WritesUnit f.unit e) fresh
 
 -- A run of whole units is submitted. None of them is one of those given before, nor of the batch's.
-pub record Gives (run : Unsent) (p q : DataPart) : Type 0 where
+pub record SubmitsRun (run : Unsent) (p q : DataPart) : Type 0 where
   pub front : List FreshUnit
   pub back : List FreshUnit
   pub before : p.given ≡ front ++ back
@@ -36,7 +36,7 @@ pub record Gives (run : Unsent) (p q : DataPart) : Type 0 where
 -- number is this.
 pub data DataGoes (flights : List Flight) : Touch → DataPart → DataPart → Type 0 where
   same : {t : Touch} {p q : DataPart} → IsNoData t → q ≡ p → DataGoes flights t p q
-  gives : {p q : DataPart} (ticket : ℕ) (run : Unsent) → Gives run p q → DataGoes flights (on_data ticket run) p q
+  gives : {p q : DataPart} (ticket : ℕ) (run : Unsent) → SubmitsRun run p q → DataGoes flights (on_data ticket run) p q
   opens : {p q : DataPart} (fresh rest : List FreshUnit) → IsPermutation p.given (fresh ++ rest)
       → q ≡ record p { given = fresh ++ rest; fresh = fresh; first = not_sent } → DataGoes flights nothing p q
   flushes_batch : {p q : DataPart} (ticket : ℕ) → AllByRecursion (λ f. IsUntouched flights f.unit) p.fresh → q ≡ record p { first = sent ticket }

@@ -3,7 +3,7 @@ use Rattle.std.specs.Prelude.{◌≡◌, ℕ, ◌+◌, true}
 use Rattle.block_device.specs.Prelude.{Disk}
 use Rattle.object_model.specs.Prelude.{Change}
 use Rattle.object_model.specs.declared.command.Answer.{Answer}
-use Rattle.object_model.specs.declared.command.Command.{Command}
+use Rattle.object_model.specs.declared.command.Read.{Read}
 use Rattle.switch_facts.specs.Prelude.{OtherGoes}
 use Rattle.store_steps.specs.declared.step.Step.{Step}
 use Rattle.store_steps.specs.declared.step.Step.TheVariants.{Take, Commit, Finish, Switch}
@@ -33,7 +33,7 @@ pub record AcceptsOne (s : State) (d : Disk) (s' : State) : Type 0 where
 -- it answers without one: it refuses a transaction, or answers a read
 pub data Replies (s : State) (d : Disk) (s' : State) : Type 0 where
   refuses : (client line : ℕ) (change : Change) (a : Answer) → Refuses client line change a s d s' → Replies s d s'
-  reads : (client line : ℕ) (command : Command) (a : Answer) → AnswersRead client line command a s d s' → Replies s d s'
+  reads : (client line : ℕ) (read : Read) (a : Answer) → AnswersRead client line read a s d s' → Replies s d s'
 
 -- it is this step, which is ready
 pub record Makes (one : Step) (What : Type 0) (s : State) (d : Disk) : Type 0 where

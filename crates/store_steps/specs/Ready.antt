@@ -41,7 +41,7 @@ begun_is test s = option_map_or test s.log.begun false
 
 -- the pieces of a checkpoint of the committed rows
 abbrev pub check_pieces : Meta → List UnitRun
-check_pieces m = meta.check_pieces m.number m.rows m.stale
+check_pieces m = meta.checkpoint_pieces m.number m.rows m.stale
 
 -- there is a checkpoint that is being written, of which this holds
 abbrev pub check_is : (Checking → Bool) → State → Bool

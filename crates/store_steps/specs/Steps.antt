@@ -6,8 +6,7 @@ use Rattle.block_device.specs.Prelude.{Disk, Submitted, Reaped, Waited}
 use Rattle.block_device.specs.declared.device.Ticket.{Ticket}
 use Rattle.block_device.specs.declared.event.Event.TheVariants as event
 use Rattle.meta_log.specs.declared.runs.UnitRun.{UnitRun}
-use Rattle.meta_log.specs.Prelude.{record_units, unit_count, piece_first, piece_units, active_unit, other_unit, other_slot, next_super, super_bytes, check_records, check_units}
-use Rattle.log_facts.specs.Prelude.{target_unit}
+use Rattle.meta_log.specs.Prelude.{record_units, unit_count, piece_first, piece_units, active_unit, other_unit, other_slot, next_super, super_bytes, check_records, check_units, target_unit}
 use Rattle.store_steps.specs.declared.step.Step.{Step}
 use Rattle.store_steps.specs.declared.step.Step.TheVariants.{Data, Reap, Take, Flush, Seal, Record, Sync, Commit, Finish, CheckWrite, CheckFlush, SlotWrite, SlotFlush, Switch}
 use Rattle.meta_store.specs.Store.{Meta, Begun, Checking}
@@ -21,8 +20,8 @@ use Rattle.store_steps.specs.Changes.{data_sent, flush_sent, record_sent, sync_s
 abbrev pub piece_unit : Meta → Begun → ℕ
 piece_unit m r = active_unit m.sup + m.tail + piece_first (unit_count m.number r.ops) r.given
 
-abbrev pub piece_bytes : ℕ → Begun → List ℕ
-piece_bytes number r = let units : ℕ = unit_count number r.ops in
+abbrev pub begun_piece_bytes : ℕ → Begun → List ℕ
+begun_piece_bytes number r = let units : ℕ = unit_count number r.ops in
     units_from (piece_first units r.given) (piece_units units r.given) (record_units number r.ops)
 
 -- the next data write of the context of least place is submitted
@@ -84,7 +83,7 @@ pub record DoesRecord (s : State) (d : Disk) (s' : State) (d' : Disk) : Type 0 w
   pub ticket : Ticket
   pub writing : Begun
   pub begun : s.log.begun ≡ Some writing
-  pub submitted : Submitted d ticket.place (event.Write (piece_unit s.log writing) (piece_bytes s.log.number writing)) d'
+  pub submitted : Submitted d ticket.place (event.Write (piece_unit s.log writing) (begun_piece_bytes s.log.number writing)) d'
   pub after : s' ≡ record_sent writing ticket s
 
 -- the flush of the record is submitted

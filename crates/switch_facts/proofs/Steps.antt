@@ -11,7 +11,7 @@ use Rattle.log_facts.specs.Prelude.{FlushState, not_sent, sent, flushed, WritesN
 use Rattle.log_facts.proofs.Keeping.{slots_push, slots_quiet, half_push, half_quiet, written_before, written_behind}
 use Rattle.log_facts.proofs.Switching.{follows, rests_push, check_push, next_slot_push, check_piece, check_flush, check_flushed, check_half, slot_write, next_slot_flush, next_slot_flushed, switch_slots, switch_rests}
 use Rattle.log_facts.proofs.RowsBegin.{rows_begin}
-use Rattle.switch_facts.specs.Prelude.{SlotPhase, unwritten, written, CheckPart, OtherPart, with_any, IsElsewhere, GivesRun, IsNothingLeft, switched, OtherGoes, IsSlotKnown, IsCheckKnown, OtherIsKnown, IsFitting}
+use Rattle.switch_facts.specs.Prelude.{SlotPhase, unwritten, written, CheckPart, OtherPart, with_any, IsElsewhere, GivesRun, IsNothingLeft, switched_part, OtherGoes, IsSlotKnown, IsCheckKnown, OtherIsKnown, IsFitting}
 use Rattle.switch_facts.specs.OtherGoes.{same, commits, begins, gives, flushes, is_flushed, writes_slot, flushes_slot, slot_flushed, switches}
 
 -- ---- by the checkpoint that is opened
@@ -188,5 +188,5 @@ other_goes h base flights ticket event p q from second recs quiet each fits size
     )
 
 pub switch_makes : (h : History) (p : OtherPart) (c : CheckPart) → p.check ≡ Some c → c.slot ≡ written flushed → OtherIsKnown h p
-    → ActiveHalfStands h (switched p).sup (switched p).rows (switched p).tail (switched p).number None 0 not_sent (check_records p.rows)
+    → ActiveHalfStands h (switched_part p).sup (switched_part p).rows (switched_part p).tail (switched_part p).number None 0 not_sent (check_records p.rows)
 switch_makes h p c opened slot known = (slot_as h p c (written flushed) opened slot known).1

@@ -6,9 +6,9 @@ use Rattle.block_device.specs.declared.event.Event.{Event}
 use Rattle.block_device.specs.declared.event.Event.TheVariants.{Write, Flush, Done}
 use Rattle.meta_rows.specs.Prelude.{Rows, row_sets}
 use Rattle.meta_log.specs.declared.slot.Super.{Super}
-use Rattle.meta_log.specs.Prelude.{super_bytes, IsSuper, other_slot, other_unit, next_super, check_records, check_units}
-use Rattle.log_facts.specs.Prelude.{not_sent, sent, flushed, WritesNoneOf, target_unit, IsSpellable}
-use Rattle.switch_facts.specs.OtherPart.{unwritten, written, CheckPart, OtherPart, begun_check, switched}
+use Rattle.meta_log.specs.Prelude.{super_bytes, IsSuper, other_slot, other_unit, next_super, check_records, check_units, target_unit}
+use Rattle.log_facts.specs.Prelude.{not_sent, sent, flushed, WritesNoneOf, IsSpellable}
+use Rattle.switch_facts.specs.OtherPart.{unwritten, written, CheckPart, OtherPart, begun_check, switched_part}
 
 -- the event, if there is one, writes neither slot, nor a unit of the other half
 abbrev pub IsElsewhere : Super → Option Event → Type 0
@@ -61,4 +61,4 @@ pub data OtherGoes (flights : List Flight) (ticket : ℕ) : Option Event → Oth
       → q ≡ record p { check = Some (record c { slot = written (sent ticket) }) } → OtherGoes flights ticket (Some Flush) p q
   slot_flushed : {p q : OtherPart} (c : CheckPart) (flush : ℕ) → p.check ≡ Some c → c.slot ≡ written (sent flush)
       → q ≡ record p { check = Some (record c { slot = written flushed }) } → OtherGoes flights ticket (Some (Done flush true)) p q
-  switches : {p q : OtherPart} (c : CheckPart) → p.check ≡ Some c → c.slot ≡ written flushed → q ≡ switched p → OtherGoes flights ticket None p q
+  switches : {p q : OtherPart} (c : CheckPart) → p.check ≡ Some c → c.slot ≡ written flushed → q ≡ switched_part p → OtherGoes flights ticket None p q

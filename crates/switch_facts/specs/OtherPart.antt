@@ -30,8 +30,8 @@ abbrev pub begun_check : (ℕ → Bool) → CheckPart
 begun_check left = record { is_left = left; flush = not_sent; slot = unwritten }
 
 -- The other half is in use, with the checkpoint's records; what was the active half is stale as far as its records reached.
-abbrev pub switched : OtherPart → OtherPart
-switched p = record {
+abbrev pub switched_part : OtherPart → OtherPart
+switched_part p = record {
   sup = next_super p.sup p.number;
   rows = p.rows;
   tail = check_units p.number p.rows;

@@ -14,7 +14,7 @@ ghost use Rattle.meta_log.specs.declared.runs.UnitRun.{UnitRun};
 ghost use Rattle.meta_log.specs.Prelude.{width_of, check_records, in_runs, check_runs};
 ghost use Rattle.store_image.specs.Prelude.{IsExactBut, IsLeakedIn, LeavesPrefix};
 ghost use Rattle.log_facts.specs.Prelude.{FlushState, not_sent, flushed, ActiveHalfStands, SoundFor};
-ghost use Rattle.switch_facts.specs.Prelude.{OtherPart, SlotPhase, written, CheckPart, OtherGoes, OtherIsKnown, IsFitting, with_any, switched, LiesInHalf, IsPieceOf, AreApart};
+ghost use Rattle.switch_facts.specs.Prelude.{OtherPart, SlotPhase, written, CheckPart, OtherGoes, OtherIsKnown, IsFitting, with_any, switched_part, LiesInHalf, IsPieceOf, AreApart};
 
 /// Each call keeps what is known of the slots and the other half, whatever it makes of them. While a checkpoint is written the half in use has its
 /// records and no more, since no batch is open.
@@ -30,7 +30,7 @@ pub fn steps_keep_the_other_half()
 /// Behind a switch the half that is in use has the rows, in the record of the checkpoint.
 pub fn a_switch_makes_the_half()
     ensures { (h : History) (p : OtherPart) (c : CheckPart) → p.check ≡ Some c → c.slot ≡ written flushed → OtherIsKnown h p →
-        ActiveHalfStands h (switched p).sup (switched p).rows (switched p).tail (switched p).number None 0 not_sent (check_records p.rows) }
+        ActiveHalfStands h (switched_part p).sup (switched_part p).rows (switched_part p).tail (switched_part p).number None 0 not_sent (check_records p.rows) }
 {}
 
 /// A crash at any moment of a checkpoint and of the switch leaves a front of the commits.

@@ -2,14 +2,14 @@
 use Rattle.std.proofs.Common.{ℕ, List, [], ◌∷◌, ◌++◌, sym, ap, ◌∙◌, append_assoc, append-nil, Result, Ok, Err, OnOk}
 use Rattle.std.specs.List.{flat_map, AllByRecursion}
 use Rattle.std.proofs.lemmas.List.Concat.{flat_map-cons, flat_map-append}
-use Rattle.txn_codec.specs.Prelude.{Field, field_bytes, FitsField, Adds, AddsForm}
+use Rattle.txn_codec.specs.Prelude.{Field, field_bytes, FitsField, AddsSpelling, AddsForm}
 
 all_push : (fs : List Field) (f : Field) → AllByRecursion FitsField fs → FitsField f → AllByRecursion FitsField (fs ++ f ∷ [])
 all_push [] f all fits = (fits, tt)
 all_push (g ∷ fs) f all fits = (all.0, all_push fs f all.1 fits)
 
 -- one field more
-pub form_more : (code : ℕ) (fs : List Field) (f : Field) (old mid new : List ℕ) → AddsForm code fs old mid → Adds FitsField field_bytes f mid new
+pub form_more : (code : ℕ) (fs : List Field) (f : Field) (old mid new : List ℕ) → AddsForm code fs old mid → AddsSpelling FitsField field_bytes f mid new
     → AddsForm code (fs ++ f ∷ []) old new
 form_more code fs f old mid new adds one = (
   all_push fs f adds.0 one.0,
@@ -19,6 +19,6 @@ form_more code fs f old mid new adds one = (
 )
 
 pub form_ends : {E : Type 0} (code : ℕ) (fs : List Field) (f : Field) (old mid new : List ℕ) (r : Result (Unit {0}) E) → AddsForm code fs old mid
-    → OnOk r (Adds FitsField field_bytes f mid new) → OnOk r (AddsForm code (fs ++ f ∷ []) old new)
+    → OnOk r (AddsSpelling FitsField field_bytes f mid new) → OnOk r (AddsForm code (fs ++ f ∷ []) old new)
 form_ends code fs f old mid new (Ok x) adds one = form_more code fs f old mid new adds one
 form_ends code fs f old mid new (Err e) adds one = one

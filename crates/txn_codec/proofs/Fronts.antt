@@ -5,7 +5,7 @@ use Rattle.std.specs.Int.{w16, w32, w64}
 use Rattle.std.proofs.lemmas.List.Concat.{flat_map-cons}
 use Rattle.meta_rows.specs.Prelude.{value_bytes, IsValue, BeginsWithNo}
 use Rattle.meta_rows.proofs.FieldLemmas.{same_front, number_front, text_front, wide16, wide32, wide64}
-use Rattle.txn_codec.specs.Prelude.{name_bytes, number_bytes, count_bytes, pair_bytes, list_bytes, IsNumber, IsCount, FitsPair, FitList}
+use Rattle.txn_codec.specs.Prelude.{name_bytes, number_bytes, count_bytes, pair_bytes, list_bytes, FitsNumber, IsCount, FitsPair, FitList}
 
 -- of two that fit, neither spelling begins the other
 abbrev pub IsFree : {X : Type 0} → (X → Type 0) → (X → List ℕ) → Type 0
@@ -23,7 +23,7 @@ name_front a b x y e = same_front a b x y (first_of_two (length a) (length b) (a
 pub name_free : (Fits : List ℕ → Type 0) → IsFree Fits name_bytes
 name_free Fits a b x y fa fb e = name_front a b x y e
 
-pub number_free : IsFree IsNumber number_bytes
+pub number_free : IsFree FitsNumber number_bytes
 number_free = number_front w64 (2 ^ 64) wide64
 
 pub count_free : IsFree IsCount count_bytes

@@ -6,7 +6,7 @@ use Rattle.unit_fields.specs.Prelude.{IsName}
 use Rattle.object_model.specs.declared.op.Op.{Op}
 use Rattle.object_model.specs.declared.op.Op.TheVariants.{MkColl, RmColl, Touch, Write, Zero, Truncate, Remove, SetAttr, RmAttr, RmAttrs, Clone, CloneRange, OmapSet, OmapRm, OmapRmRange, OmapClear, OmapHeader}
 use Rattle.object_model.specs.declared.op.Pair.{Pair}
-use Rattle.txn_codec.specs.Prelude.{Field, Name, Number, Value, Keys, Pairs, code_of, fields_of, name_bytes, pair_bytes, field_bytes, op_bytes, FitsPair, FitsField, FitsOp}
+use Rattle.txn_codec.specs.Prelude.{Field, Name, Number, Value, Keys, Pairs, code_of, fields_of, name_bytes, pair_bytes, field_bytes, txn_op_bytes, FitsPair, FitsField, FitsOp}
 use Rattle.txn_codec.proofs.Fronts.{IsFree, rest_of, first_of_two, name_free, number_free, value_free, pair_free, list_free}
 
 pub data Kind : Type 0 where
@@ -159,7 +159,7 @@ again (OmapRmRange a b c) = refl
 again (OmapClear a) = refl
 again (OmapHeader a b) = refl
 
-pub op_free : IsFree FitsOp op_bytes
+pub op_free : IsFree FitsOp txn_op_bytes
 op_free a b x y fa fb e =
     let code : code_of a ≡ code_of b = first_of_two (code_of a) (code_of b) (flat_map field_bytes (fields_of a) ++ x) (flat_map field_bytes (fields_of b) ++ y) e in
     let both = fields_front (fields_of a) (fields_of b) x y (kinds a ∙ ap kinds_at code ∙ sym (kinds b)) fa fb

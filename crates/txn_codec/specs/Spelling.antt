@@ -70,17 +70,17 @@ field_bytes (Keys keys) = list_bytes name_bytes keys
 field_bytes (Pairs pairs) = list_bytes pair_bytes pairs
 
 -- an operation: its code, and its fields one after another
-abbrev pub op_bytes : Op → List ℕ
-op_bytes op = code_of op ∷ flat_map field_bytes (fields_of op)
+abbrev pub txn_op_bytes : Op → List ℕ
+txn_op_bytes op = code_of op ∷ flat_map field_bytes (fields_of op)
 
 -- the spelling of a transaction: the version 1, its collection's name, and its operations
 abbrev pub transaction_bytes : Change → List ℕ
-transaction_bytes t = 1 ∷ (name_bytes t.coll ++ list_bytes op_bytes t.ops)
+transaction_bytes t = 1 ∷ (name_bytes t.coll ++ list_bytes txn_op_bytes t.ops)
 
 -- ---- what has a spelling
 
-abbrev pub IsNumber : ℕ → Type 0
-IsNumber n = n < 2 ^ 64
+abbrev pub FitsNumber : ℕ → Type 0
+FitsNumber n = n < 2 ^ 64
 
 pub record IsCount (n : ℕ) : Type 0 where
   pub some : 0 < n
@@ -97,7 +97,7 @@ pub record FitList {X : Type 0} (Fits : X → Type 0) (xs : List X) : Type 0 whe
 
 abbrev pub FitsField : Field → Type 0
 FitsField (Name name) = IsName name
-FitsField (Number n) = IsNumber n
+FitsField (Number n) = FitsNumber n
 FitsField (Value value) = IsValue value
 FitsField (Keys keys) = FitList IsName keys
 FitsField (Pairs pairs) = FitList FitsPair pairs

@@ -1,9 +1,9 @@
 //! The fields of operations read from the front of bytes.
 ghost use Rattle.std.specs.Prelude.{◌≡◌, ◌≢◌, ℕ, List, ◌++◌, MatchResult};
 ghost use Rattle.unit_fields.specs.Prelude.{IsName, IsCollName};
-ghost use Rattle.meta_rows.specs.Prelude.{value_bytes, IsValue, BeginsWithNo, Reads};
+ghost use Rattle.meta_rows.specs.Prelude.{value_bytes, IsValue, BeginsWithNo, ReadsFront};
 ghost use Rattle.txn_codec.specs.declared.fail.ReadFail.TheVariants.{NotSpelled};
-ghost use Rattle.txn_codec.specs.Prelude.{name_bytes, number_bytes, count_bytes, list_bytes, pair_bytes, IsNumber, IsCount, FitsPair, FitList, Gives, LacksNames, ReadsNames};
+ghost use Rattle.txn_codec.specs.Prelude.{name_bytes, number_bytes, count_bytes, list_bytes, pair_bytes, FitsNumber, IsCount, FitsPair, FitList, GivesFront, LacksNames, ReadsNames};
 
 use crate::fail::ReadFail;
 use byte_maps::{Bytes, Items};
@@ -26,7 +26,7 @@ fn read_short<'a>(fields: &mut Fields<'a>) -> Result<&'a [u8], ReadFail>
 }
 
 pub(crate) fn read_name(alloc: Global, fields: &mut Fields) -> Result<Name, ReadFail>
-    ensures { Gives IsName name_bytes fields.old fields.new result }
+    ensures { GivesFront IsName name_bytes fields.old fields.new result }
 {
     let bytes = read_short(fields)?;
     match Name::read(alloc, bytes)? {
@@ -36,7 +36,7 @@ pub(crate) fn read_name(alloc: Global, fields: &mut Fields) -> Result<Name, Read
 }
 
 pub(crate) fn read_coll(alloc: Global, fields: &mut Fields) -> Result<CollName, ReadFail>
-    ensures { Gives IsCollName name_bytes fields.old fields.new result }
+    ensures { GivesFront IsCollName name_bytes fields.old fields.new result }
 {
     let bytes = read_short(fields)?;
     match CollName::read(alloc, bytes)? {
@@ -46,7 +46,7 @@ pub(crate) fn read_coll(alloc: Global, fields: &mut Fields) -> Result<CollName, 
 }
 
 pub(crate) fn read_number(fields: &mut Fields) -> Result<u64, ReadFail>
-    ensures { Gives IsNumber number_bytes fields.old fields.new result }
+    ensures { GivesFront FitsNumber number_bytes fields.old fields.new result }
 {
     match fields.u64() {
         Some(number) => Ok(number),
@@ -56,7 +56,7 @@ pub(crate) fn read_number(fields: &mut Fields) -> Result<u64, ReadFail>
 
 // How many things follow.
 pub(crate) fn read_count(fields: &mut Fields) -> Result<u16, ReadFail>
-    ensures { Gives IsCount count_bytes fields.old fields.new result }
+    ensures { GivesFront IsCount count_bytes fields.old fields.new result }
 {
     match fields.u16() {
         Some(count) if count > 0 => Ok(count),
@@ -66,7 +66,7 @@ pub(crate) fn read_count(fields: &mut Fields) -> Result<u16, ReadFail>
 
 // A value, lent.
 pub(crate) fn read_value<'a>(fields: &mut Fields<'a>) -> Result<&'a [u8], ReadFail>
-    ensures { MatchResult result (λ value. Reads IsValue value_bytes fields.old fields.new value.now)
+    ensures { MatchResult result (λ value. ReadsFront IsValue value_bytes fields.old fields.new value.now)
         (λ why. why ≡ NotSpelled → BeginsWithNo IsValue value_bytes fields.old) }
 {
     let Some(size) = fields.u32() else {
@@ -79,7 +79,7 @@ pub(crate) fn read_value<'a>(fields: &mut Fields<'a>) -> Result<&'a [u8], ReadFa
 }
 
 pub(crate) fn read_bytes(alloc: Global, fields: &mut Fields) -> Result<Bytes, ReadFail>
-    ensures { Gives IsValue value_bytes fields.old fields.new result }
+    ensures { GivesFront IsValue value_bytes fields.old fields.new result }
 {
     let value = read_value(fields)?;
     let bytes = Bytes::from_slice(alloc, value)?;
@@ -101,7 +101,7 @@ pub(crate) fn read_names(alloc: Global, fields: &mut Fields) -> Result<(Name, Na
 }
 
 fn read_pair(alloc: Global, fields: &mut Fields) -> Result<Pair, ReadFail>
-    ensures { Gives FitsPair pair_bytes fields.old fields.new result }
+    ensures { GivesFront FitsPair pair_bytes fields.old fields.new result }
 {
     let key = read_name(alloc, fields)?;
     match read_bytes(alloc, fields) {
@@ -114,7 +114,7 @@ fn read_pair(alloc: Global, fields: &mut Fields) -> Result<Pair, ReadFail>
 }
 
 pub(crate) fn read_keys(alloc: Global, fields: &mut Fields) -> Result<Items<Name>, ReadFail>
-    ensures { Gives (FitList IsName) (list_bytes name_bytes) fields.old fields.new result }
+    ensures { GivesFront (FitList IsName) (list_bytes name_bytes) fields.old fields.new result }
 {
     let count = read_count(fields)?;
     let mut keys = Vec::new(alloc);
@@ -126,7 +126,7 @@ pub(crate) fn read_keys(alloc: Global, fields: &mut Fields) -> Result<Items<Name
 }
 
 pub(crate) fn read_pairs(alloc: Global, fields: &mut Fields) -> Result<Items<Pair>, ReadFail>
-    ensures { Gives (FitList FitsPair) (list_bytes pair_bytes) fields.old fields.new result }
+    ensures { GivesFront (FitList FitsPair) (list_bytes pair_bytes) fields.old fields.new result }
 {
     let count = read_count(fields)?;
     let mut pairs = Vec::new(alloc);

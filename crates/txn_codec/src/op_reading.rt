@@ -1,6 +1,6 @@
 //! Operations read from the front of bytes.
 ghost use Rattle.std.specs.Prelude.{◌∷◌};
-ghost use Rattle.txn_codec.specs.Prelude.{op_bytes, FitsOp, Gives};
+ghost use Rattle.txn_codec.specs.Prelude.{txn_op_bytes, FitsOp, GivesFront};
 
 use crate::codes::{
     CLONE, CLONERANGE, MKCOLL, OMAPCLEAR, OMAPHEADER, OMAPRM, OMAPRMRANGE, OMAPSET, REMOVE, RMATTR,
@@ -18,7 +18,7 @@ use unit_fields::Fields;
 // Each of these reads the fields of one kind of operation, behind its code.
 
 fn read_write(alloc: Global, fields: &mut Fields) -> Result<Op, ReadFail>
-    ensures { Gives FitsOp op_bytes (4 ∷ fields.old) fields.new result }
+    ensures { GivesFront FitsOp txn_op_bytes (4 ∷ fields.old) fields.new result }
 {
     let object = read_name(alloc, fields)?;
     let off = read_number(fields)?;
@@ -27,7 +27,7 @@ fn read_write(alloc: Global, fields: &mut Fields) -> Result<Op, ReadFail>
 }
 
 fn read_zero(alloc: Global, fields: &mut Fields) -> Result<Op, ReadFail>
-    ensures { Gives FitsOp op_bytes (5 ∷ fields.old) fields.new result }
+    ensures { GivesFront FitsOp txn_op_bytes (5 ∷ fields.old) fields.new result }
 {
     let object = read_name(alloc, fields)?;
     let off = read_number(fields)?;
@@ -36,7 +36,7 @@ fn read_zero(alloc: Global, fields: &mut Fields) -> Result<Op, ReadFail>
 }
 
 fn read_truncate(alloc: Global, fields: &mut Fields) -> Result<Op, ReadFail>
-    ensures { Gives FitsOp op_bytes (6 ∷ fields.old) fields.new result }
+    ensures { GivesFront FitsOp txn_op_bytes (6 ∷ fields.old) fields.new result }
 {
     let object = read_name(alloc, fields)?;
     let size = read_number(fields)?;
@@ -44,7 +44,7 @@ fn read_truncate(alloc: Global, fields: &mut Fields) -> Result<Op, ReadFail>
 }
 
 fn read_set_attr(alloc: Global, fields: &mut Fields) -> Result<Op, ReadFail>
-    ensures { Gives FitsOp op_bytes (8 ∷ fields.old) fields.new result }
+    ensures { GivesFront FitsOp txn_op_bytes (8 ∷ fields.old) fields.new result }
 {
     let (object, name) = read_names(alloc, fields)?;
     match read_bytes(alloc, fields) {
@@ -62,21 +62,21 @@ fn read_set_attr(alloc: Global, fields: &mut Fields) -> Result<Op, ReadFail>
 }
 
 fn read_rm_attr(alloc: Global, fields: &mut Fields) -> Result<Op, ReadFail>
-    ensures { Gives FitsOp op_bytes (9 ∷ fields.old) fields.new result }
+    ensures { GivesFront FitsOp txn_op_bytes (9 ∷ fields.old) fields.new result }
 {
     let (object, name) = read_names(alloc, fields)?;
     Ok(Op::RmAttr { object, name })
 }
 
 fn read_clone(alloc: Global, fields: &mut Fields) -> Result<Op, ReadFail>
-    ensures { Gives FitsOp op_bytes (11 ∷ fields.old) fields.new result }
+    ensures { GivesFront FitsOp txn_op_bytes (11 ∷ fields.old) fields.new result }
 {
     let (object, to) = read_names(alloc, fields)?;
     Ok(Op::Clone { object, to })
 }
 
 fn read_clone_range(alloc: Global, fields: &mut Fields) -> Result<Op, ReadFail>
-    ensures { Gives FitsOp op_bytes (12 ∷ fields.old) fields.new result }
+    ensures { GivesFront FitsOp txn_op_bytes (12 ∷ fields.old) fields.new result }
 {
     let (object, to) = read_names(alloc, fields)?;
     let src = read_number(fields)?;
@@ -92,7 +92,7 @@ fn read_clone_range(alloc: Global, fields: &mut Fields) -> Result<Op, ReadFail>
 }
 
 fn read_omap_set(alloc: Global, fields: &mut Fields) -> Result<Op, ReadFail>
-    ensures { Gives FitsOp op_bytes (13 ∷ fields.old) fields.new result }
+    ensures { GivesFront FitsOp txn_op_bytes (13 ∷ fields.old) fields.new result }
 {
     let object = read_name(alloc, fields)?;
     let pairs = read_pairs(alloc, fields)?;
@@ -100,7 +100,7 @@ fn read_omap_set(alloc: Global, fields: &mut Fields) -> Result<Op, ReadFail>
 }
 
 fn read_omap_rm(alloc: Global, fields: &mut Fields) -> Result<Op, ReadFail>
-    ensures { Gives FitsOp op_bytes (14 ∷ fields.old) fields.new result }
+    ensures { GivesFront FitsOp txn_op_bytes (14 ∷ fields.old) fields.new result }
 {
     let object = read_name(alloc, fields)?;
     let keys = read_keys(alloc, fields)?;
@@ -108,7 +108,7 @@ fn read_omap_rm(alloc: Global, fields: &mut Fields) -> Result<Op, ReadFail>
 }
 
 fn read_omap_rm_range(alloc: Global, fields: &mut Fields) -> Result<Op, ReadFail>
-    ensures { Gives FitsOp op_bytes (15 ∷ fields.old) fields.new result }
+    ensures { GivesFront FitsOp txn_op_bytes (15 ∷ fields.old) fields.new result }
 {
     let (object, first) = read_names(alloc, fields)?;
     match read_name(alloc, fields) {
@@ -126,7 +126,7 @@ fn read_omap_rm_range(alloc: Global, fields: &mut Fields) -> Result<Op, ReadFail
 }
 
 fn read_omap_header(alloc: Global, fields: &mut Fields) -> Result<Op, ReadFail>
-    ensures { Gives FitsOp op_bytes (17 ∷ fields.old) fields.new result }
+    ensures { GivesFront FitsOp txn_op_bytes (17 ∷ fields.old) fields.new result }
 {
     let object = read_name(alloc, fields)?;
     match read_bytes(alloc, fields) {
@@ -140,7 +140,7 @@ fn read_omap_header(alloc: Global, fields: &mut Fields) -> Result<Op, ReadFail>
 
 // The fields of the operation of this code.
 fn read_fields(alloc: Global, code: u8, fields: &mut Fields) -> Result<Op, ReadFail>
-    ensures { Gives FitsOp op_bytes (code ∷ fields.old) fields.new result }
+    ensures { GivesFront FitsOp txn_op_bytes (code ∷ fields.old) fields.new result }
 {
     match code {
         MKCOLL => Ok(Op::MkColl),
@@ -173,7 +173,7 @@ fn read_fields(alloc: Global, code: u8, fields: &mut Fields) -> Result<Op, ReadF
 }
 
 pub(crate) fn read_op(alloc: Global, fields: &mut Fields) -> Result<Op, ReadFail>
-    ensures { Gives FitsOp op_bytes fields.old fields.new result }
+    ensures { GivesFront FitsOp txn_op_bytes fields.old fields.new result }
 {
     match fields.u8() {
         Some(code) => read_fields(alloc, code, fields),

@@ -2,7 +2,7 @@
 ghost use Rattle.std.specs.Prelude.{◌∷◌, [], length, OnOk};
 ghost use Rattle.meta_rows.specs.Prelude.{IsValue};
 ghost use Rattle.txn_codec.specs.Spelling as field;
-ghost use Rattle.txn_codec.specs.Prelude.{op_bytes, IsCount, FitsOp, HasShortValues, HaveWidth, Adds, AddsForm};
+ghost use Rattle.txn_codec.specs.Prelude.{txn_op_bytes, IsCount, FitsOp, HasShortValues, HaveWidth, AddsSpelling, AddsForm};
 
 use crate::codes::{
     CLONE, CLONERANGE, MKCOLL, OMAPCLEAR, OMAPHEADER, OMAPRM, OMAPRMRANGE, OMAPSET, REMOVE, RMATTR,
@@ -115,7 +115,7 @@ fn push_header(out: &mut Vec<u8>, object: &Name, value: &[u8]) -> Result<(), All
 
 pub(crate) fn push_op(out: &mut Vec<u8>, op: &Op) -> Result<(), AllocError>
     requires { HaveWidth op.now }
-    ensures { OnOk result (Adds FitsOp op_bytes op.now out.old.items out.new.items) }
+    ensures { OnOk result (AddsSpelling FitsOp txn_op_bytes op.now out.old.items out.new.items) }
 {
     match op {
         Op::MkColl => Ok(out.push(MKCOLL)?),

@@ -2,7 +2,7 @@
 ghost use Rattle.std.specs.Prelude.{◌≡◌, ◌∷◌, [], length, IfOk, MatchOption, MatchResult};
 ghost use Rattle.meta_rows.specs.Prelude.{BeginsWithNo};
 ghost use Rattle.txn_codec.specs.declared.fail.ReadFail.TheVariants.{NotSpelled};
-ghost use Rattle.txn_codec.specs.Prelude.{op_bytes, transaction_bytes, AddsOp, FitsOp, FitsTransaction, Gives, HasNoFirst, IsFront, ReadsBody, ReadsFirst};
+ghost use Rattle.txn_codec.specs.Prelude.{txn_op_bytes, transaction_bytes, AddsOp, FitsOp, FitsTransaction, GivesFront, HasNoFirst, IsTransactionFront, ReadsBody, ReadsFirst};
 
 use crate::codes::VERSION;
 use crate::fail::ReadFail;
@@ -54,7 +54,7 @@ fn read_begin(alloc: Global, fields: &mut Fields) -> Result<(Transaction, u16), 
 // One operation more.
 fn add_op(alloc: Global, fields: &mut Fields, transaction: &mut Transaction) -> Result<(), ReadFail>
     ensures { MatchResult result (λ _. AddsOp transaction.old fields.old transaction.new fields.new)
-        (λ why. why ≡ NotSpelled → BeginsWithNo FitsOp op_bytes fields.old) }
+        (λ why. why ≡ NotSpelled → BeginsWithNo FitsOp txn_op_bytes fields.old) }
 {
     let op = read_op(alloc, fields)?;
     match transaction.push(op) {
@@ -68,7 +68,7 @@ fn add_op(alloc: Global, fields: &mut Fields, transaction: &mut Transaction) -> 
 
 // The transaction behind the version.
 fn read_body(alloc: Global, fields: &mut Fields) -> Result<Transaction, ReadFail>
-    ensures { Gives FitsTransaction transaction_bytes (1 ∷ fields.old) fields.new result }
+    ensures { GivesFront FitsTransaction transaction_bytes (1 ∷ fields.old) fields.new result }
 {
     let (mut transaction, count) = read_begin(alloc, fields)?;
     'ops: for _i in 1..count {
@@ -78,7 +78,7 @@ fn read_body(alloc: Global, fields: &mut Fields) -> Result<Transaction, ReadFail
 }
 
 fn read_transaction(alloc: Global, fields: &mut Fields) -> Result<Transaction, ReadFail>
-    ensures { Gives FitsTransaction transaction_bytes fields.old fields.new result }
+    ensures { GivesFront FitsTransaction transaction_bytes fields.old fields.new result }
 {
     match fields.u8() {
         Some(VERSION) => read_body(alloc, fields),
@@ -90,7 +90,8 @@ fn read_transaction(alloc: Global, fields: &mut Fields) -> Result<Transaction, R
 /// isn't looked at. Each byte is looked at once, and no more memory is taken than the names, values and operations in the bytes ask
 /// for. The limits of a transaction's operations and payload are for the caller to see. (Ceph: `ObjectStore::Transaction::decode`.)
 pub fn decode(alloc: Global, bytes: &[u8]) -> Result<Option<(Transaction, usize)>, AllocError>
-    ensures { IfOk result (λ found. MatchOption found (BeginsWithNo FitsTransaction transaction_bytes bytes.now) (λ pair. IsFront bytes.now pair.0 pair.1)) }
+    ensures { IfOk result (λ found. MatchOption found (BeginsWithNo FitsTransaction transaction_bytes bytes.now)
+        (λ pair. IsTransactionFront bytes.now pair.0 pair.1)) }
 {
     let mut fields = Fields::new(bytes);
     match read_transaction(alloc, &mut fields) {

@@ -1,6 +1,6 @@
 //! A transaction as bytes.
 ghost use Rattle.std.specs.Prelude.{IfOk};
-ghost use Rattle.txn_codec.specs.Prelude.{IsEncodable, Spells};
+ghost use Rattle.txn_codec.specs.Prelude.{IsEncodable, SpellsTransaction};
 
 use crate::codes::VERSION;
 use crate::field_writing::push_coll;
@@ -12,7 +12,7 @@ use unit_fields::push_u16_le;
 /// The transaction as bytes. `decode` gives it back, whatever is written behind them. (Ceph: `ObjectStore::Transaction::encode`.)
 pub fn encode(alloc: Global, transaction: &Transaction) -> Result<Vec<u8>, AllocError>
     requires { IsEncodable transaction.now }
-    ensures { IfOk result (λ bytes. Spells bytes.items transaction.now) }
+    ensures { IfOk result (λ bytes. SpellsTransaction bytes.items transaction.now) }
 {
     let mut out = Vec::new(alloc);
     out.push(VERSION)?;

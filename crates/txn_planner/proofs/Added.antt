@@ -11,17 +11,17 @@ use Rattle.plan_rows.specs.declared.plan.ReadUnit.{ReadUnit}
 use Rattle.plan_drafts.specs.Prelude.{Edit, edit_of, pages_taking, places_read, Held, writes_of, with_writes, object_of, or_new, edit_on, units_on, places_on, CollDraft, held_after}
 use Rattle.page_edits.specs.declared.edits.Edited.{Edited}
 use Rattle.page_edits.specs.declared.writes.PageWrite.{PageWrite}
-use Rattle.page_edits.specs.Takings.{IsNumbered, AreWhole}
+use Rattle.page_edits.specs.Takings.{IsNumbered, PutsWholePages}
 use Rattle.page_edits.specs.Writes.{op_at, after_writes, CanBeMade}
 use Rattle.page_edits.proofs.UnitContents.{operation_made}
-use Rattle.draft_rows.proofs.DraftBytes.{AllWhole}
+use Rattle.plan_proofs.proofs.DraftBytes.{AllWhole}
 use Rattle.txn_planner.specs.declared.planning.Planning.{Planning}
 use Rattle.txn_planner.specs.Steps.{TellsEdit, AddsEdit}
 
 -- The operation takes the next units, and its places and writes come behind those before it.
 pub record Adds (ops : List Op) (op : Op) (d : CollDraft) (old new : Planning) : Type 0 where
-  pub taken : new.taken ≡ old.taken + units_on op (d.layout (object_of op))
-  pub places : new.places.items ≡ old.places.items ++ places_on op (d.layout (object_of op))
+  pub taken : new.taken ≡ old.taken + units_on op d
+  pub places : new.places.items ≡ old.places.items ++ places_on op d
   pub writes : List PageWrite
   pub are : new.writes.items ≡ old.writes.items ++ writes
   pub made : (read : List ReadUnit) (held : Held) → AllWhole held d → after_writes ops read writes held ≡ held_after read op d held
@@ -34,8 +34,8 @@ append_none (x ∷ xs) = ap (λ l. x ∷ l) (append_none xs)
 -- ---- nothing
 
 pub record IsIdle (op : Op) (d : CollDraft) : Type 0 where
-  pub units : units_on op (d.layout (object_of op)) ≡ 0
-  pub places : places_on op (d.layout (object_of op)) ≡ []
+  pub units : units_on op d ≡ 0
+  pub places : places_on op d ≡ []
   pub writes : (read : List ReadUnit) (held : Held) → held_after read op d held ≡ held
 
 -- an operation that isn't about bytes, or not about those of this object
@@ -61,7 +61,7 @@ nothing_added ops op d old new idle writes places taken = record {
 -- ---- an edit
 
 -- the pages of an object that may be missing are to hold whole bytes
-whole_of : (held : Held) (d : CollDraft) (o : List ℕ) → IsName o → AllWhole held d → (x : Option Draft) → d.layout o ≡ x → AreWhole held (or_new x)
+whole_of : (held : Held) (d : CollDraft) (o : List ℕ) → IsName o → AllWhole held d → (x : Option Draft) → d.layout o ≡ x → PutsWholePages held (or_new x)
 whole_of held d o name all None is page taking put = absurd (let t = sym (finite.get-empty nat_cmp page) ∙ put in cc)
 whole_of held d o name all (Some x) is page taking put = all o x name is page taking put
 

@@ -11,19 +11,19 @@ use Rattle.unit_fields.specs.Prelude.{IsCollName}
 use Rattle.unit_fields.specs.declared.width.Width.{Width}
 use Rattle.read_facts.specs.Prelude.{IsRefusedBy, IsNotRefused}
 use Rattle.plan_drafts.specs.Prelude.{Layout, HasLayout, IsKnown, AreTaken, AreRefused, AsksFor, with_ops, places_of}
-use Rattle.onode_state.specs.Objects.{AreRowsOfWidth}
-use Rattle.draft_rows.proofs.Layouts.{all_layouts}
-use Rattle.draft_rows.proofs.Replies.{large_submitted, small_submitted, refused_by, taken_by}
+use Rattle.object_rows.specs.Stores.{AreRowsOfWidth}
+use Rattle.plan_proofs.proofs.Layouts.{all_layouts}
+use Rattle.plan_proofs.proofs.Replies.{large_submitted, small_submitted, refused_by, taken_by}
 use Rattle.unit_allocator.specs.Prelude.{Space, free_units}
 use Rattle.unit_allocator.specs.Fails.{FailsBy}
 use Rattle.unit_allocator.specs.declared.allocator.TakeFail.{TakeFail}
 use Rattle.unit_allocator.specs.declared.allocator.TakeFail.TheVariants as take_fail
-use Rattle.txn_planner.specs.declared.drafts.Draft.{Draft}
+use Rattle.txn_planner.specs.declared.drafts.TxnDraft.{TxnDraft}
 use Rattle.txn_planner.specs.declared.fails.PlanFail.{PlanFail}
 use Rattle.txn_planner.specs.declared.fails.PlanFail.TheVariants as fail
 use Rattle.txn_planner.specs.declared.planning.Planning.{Planning}
-use Rattle.txn_planner.specs.Drafts.{IsDraftFor, Refuses}
-use Rattle.txn_planner.specs.PlanFails.{IsPlanFail, fail_of}
+use Rattle.txn_planner.specs.Drafts.{IsDraftFor, IsPlanRefused}
+use Rattle.txn_planner.specs.PlanFails.{IsPlanFail, plan_fail_of}
 use Rattle.txn_planner.specs.Planning.{first_draft, IsGround, IsPlannedTo, PlannedTo}
 use Rattle.txn_planner.proofs.Fronts.{all_taken}
 use Rattle.txn_planner.proofs.Grounds.{begins}
@@ -73,7 +73,7 @@ module _ (w : Width) (rows : Rows) (good : AreRowsOfWidth w rows) (change : Chan
   abbrev g : (layouts : List ℕ → Option Layout) × IsGround w change rows layouts
   g = ground_there w rows good change coll known small
 
-  pub fails_by : (why : PlanFail) → Refuses w change rows why → IsPlanFail w change rows space why
+  pub fails_by : (why : PlanFail) → IsPlanRefused w change rows why → IsPlanFail w change rows space why
   fails_by (fail.Refusal refusal) is = is_refused_by w rows good change g.0 g.1 refusal (is g.0 g.1)
   fails_by (fail.NoSpace need free) is = absurd is
   fails_by fail.Memory is = tt
@@ -86,7 +86,7 @@ module _ (w : Width) (rows : Rows) (good : AreRowsOfWidth w rows) (change : Chan
     not_refused_now = is_not_refused w rows good change g.0 g.1 (subst (λ ops. AreTaken ops (first_draft rows change.coll g.0)) (all_taken change.ops)
         (planned g.0 g.1).taken)
 
-    pub draft_is : (draft : Draft) → draft.planning ≡ p → p.taken ≤ length (free_units space) → draft.units.items ≡ take p.taken (free_units space)
+    pub draft_is : (draft : TxnDraft) → draft.planning ≡ p → p.taken ≤ length (free_units space) → draft.units.items ≡ take p.taken (free_units space)
         → IsDraftFor w change rows space draft
     draft_is draft is enough units = record {
       coll = coll;
@@ -99,7 +99,7 @@ module _ (w : Width) (rows : Rows) (good : AreRowsOfWidth w rows) (change : Chan
       units = units ∙ ap (λ (q : Planning). take q.taken (free_units space)) (sym is);
     }
 
-    pub no_space_by : (why : TakeFail) → FailsBy why p.taken (length (free_units space)) → IsPlanFail w change rows space (fail_of why)
+    pub no_space_by : (why : TakeFail) → FailsBy why p.taken (length (free_units space)) → IsPlanFail w change rows space (plan_fail_of why)
     no_space_by (take_fail.NoSpace need free) is = (
       not_refused_now,
       (p.places.items, subst (λ n. AsksFor w change rows n p.places.items) (sym is.0) asks_now),

@@ -12,7 +12,7 @@ use Rattle.meta_rows.specs.Prelude.{Rows}
 use Rattle.row_format.specs.Prelude.{Place, own}
 use Rattle.store_image.specs.Prelude.{IsPageAt, page_of, Owns, HasSoleOwner}
 use Rattle.blob_map.specs.Prelude.{PageMap}
-use Rattle.plan_drafts.specs.Prelude.{IsMapOf, own_units, StandsOnce}
+use Rattle.plan_drafts.specs.Prelude.{IsMapOf, units_released, StandsOnce}
 
 -- ---- elements
 
@@ -102,7 +102,7 @@ in_found (e ∷ es) page place sorted (inr later) =
 -- the pages that pass a test
 module _ (w : Width) (test : ℕ → Bool) where
   abbrev units_in : List (ℕ × Place) → List ℕ
-  units_in es = flat_map (λ p. own_units p.1) (where_key nat_cmp test es)
+  units_in es = flat_map (λ p. units_released p.1) (where_key nat_cmp test es)
 
   -- an entry that passes has the unit
   pub record Stands (es : List (ℕ × Place)) (v : ℕ) : Type 0 where
@@ -113,7 +113,7 @@ module _ (w : Width) (test : ℕ → Bool) where
 
   -- the units with an entry in front
   abbrev front : ℕ × Place → List (ℕ × Place) → Bool → List ℕ
-  front e es b = flat_map (λ p. own_units p.1) (cond b (e ∷ where_key nat_cmp test es) (where_key nat_cmp test es))
+  front e es b = flat_map (λ p. units_released p.1) (cond b (e ∷ where_key nat_cmp test es) (where_key nat_cmp test es))
 
   pub unit_stands : (es : List (ℕ × Place)) (v : ℕ) → In (units_in es) v → Stands es v
   unit_stands [] v h = absurd h

@@ -3,6 +3,7 @@ use Rattle.std.proofs.Common.{◌≡◌, inl, inr, ℕ, ◌<◌, Bool, true, fal
 use Rattle.std.specs.Prelude.{◌||◌}
 use Rattle.std.specs.List.{flat_map}
 use Rattle.std.specs.Ordering.{nat_cmp}
+use Rattle.std.specs.Option.{option_map_or}
 use Rattle.std.specs.FinMap as finite
 use Rattle.std.specs.FinMap.{entries}
 use Rattle.std.specs.FinMap.Entries.{where_key}
@@ -14,12 +15,12 @@ use Rattle.unit_fields.specs.declared.width.Width.{Width}
 use Rattle.row_format.specs.Prelude.{Place}
 use Rattle.number_map.proofs.Laws.{same}
 use Rattle.plan_drafts.specs.declared.draft.Draft.{Draft}
-use Rattle.plan_drafts.specs.Prelude.{Edit, edit_of, is_touched, drafted, own_units, Layout, or_new, object_of, edit_on, draft_after, CollDraft, with_op, IsOnObject, IsTaken}
+use Rattle.plan_drafts.specs.Prelude.{Edit, edit_of, is_touched, drafted, units_released, Layout, or_new, object_of, edit_on, draft_after, CollDraft, with_op, IsOnObject, IsTaken}
 use Rattle.page_edits.specs.Takings.{IsNumbered}
 use Rattle.page_edits.specs.Writes.{op_at}
 use Rattle.page_edits.proofs.DraftedPages.{kept_touched, kept_same, uncleared_same}
-use Rattle.draft_rows.proofs.EditFacts.{the_edit_laws}
-use Rattle.draft_rows.proofs.Reached.{IsReached, IsObjectReached, x_reached, alone, what_becomes}
+use Rattle.plan_proofs.proofs.EditFacts.{the_edit_laws}
+use Rattle.plan_proofs.proofs.Reached.{IsReached, IsObjectReached, x_reached, alone, what_becomes}
 use Rattle.txn_planner.specs.declared.planning.Planning.{Planning}
 use Rattle.txn_planner.specs.Planning.{IsStateOf}
 use Rattle.txn_planner.specs.Steps.{HaveLayouts, TellsEdit, EditsObject, LeavesObject, DropsObject, ChangesObject, has_any}
@@ -46,7 +47,7 @@ where_none [] = refl
 where_none (e ∷ es) = where_none es
 
 -- a touch leaves an object as it is that is there
-touch_same : (o : List ℕ) (n : ℕ) (x : Option Draft) → is_some x ≡ true → draft_after (Touch o) n x ≡ x
+touch_same : (o : List ℕ) (n : ℕ) (x : Option Draft) → is_some x ≡ true → Some (drafted (edit_of (Touch o) (or_new x).size) n (or_new x)) ≡ x
 touch_same o n None some = absurd cc
 touch_same o n (Some y) some = λ i. Some (record { size = y.size; kept = kept i; puts = puts i })
   where
@@ -78,7 +79,7 @@ module _ (w : Width) (rows : Rows) (c : List ℕ) (layouts : List ℕ → Option
   by_move m = moved w rows c layouts op d old new reached_x.kept m (standing_of rows c layouts d old was)
 
   -- nothing of the state changes
-  pub unchanged : new ≡ old → draft_after op d.taken x ≡ x → IsIdle op d → Carries rows c layouts ops op d old new
+  pub unchanged : new ≡ old → draft_after op d ≡ x → IsIdle op d → Carries rows c layouts ops op d old new
   unchanged is made idle = record {
     stand = stayed rows c layouts op d old new (record {
       made = made;
@@ -105,17 +106,17 @@ module _ (w : Width) (rows : Rows) (c : List ℕ) (layouts : List ℕ → Option
     tells = subst (λ n. TellsEdit op at n (or_new x) h.edited) was.taken
         (subst (λ z. TellsEdit op at old.taken (or_new z) h.edited) is.now_is h.tells)
 
-    made : draft_after op d.taken x ≡ Some (drafted e d.taken (or_new x))
-    made = elim (what_becomes op x) [
+    made : draft_after op d ≡ Some (drafted e d.taken (or_new x))
+    made = elim (what_becomes op d) [
       | inl goes ↦ absurd (let t = sym goes.edit ∙ edits in cc)
-      | inr other ↦ elim other [ inl keeps ↦ absurd (let t = sym keeps.edit ∙ edits in cc) | inr has ↦ has.made d.taken ]
+      | inr other ↦ elim other [ inl keeps ↦ absurd (let t = sym keeps.edit ∙ edits in cc) | inr has ↦ has.made ]
     ]
 
-    put_now : Some (drafted (edit_of op (or_new h.before.now).size) old.taken (or_new h.before.now)) ≡ draft_after op d.taken x
+    put_now : Some (drafted (edit_of op (or_new h.before.now).size) old.taken (or_new h.before.now)) ≡ draft_after op d
     put_now = ap (λ z. Some (drafted (edit_of op (or_new z).size) old.taken (or_new z))) is.now_is
         ∙ ap (λ n. Some (drafted e n (or_new x))) was.taken ∙ sym made
 
-    cut : IsCut x (draft_after op d.taken x) (is_touched e)
+    cut : IsCut x (draft_after op d) (is_touched e)
     cut = record {
       none = λ page all. ap (λ z. finite.get (or_new z).kept page) made ∙ kept_touched e (or_new x) d.taken page all;
       same = λ page none. ap (λ z. finite.get (or_new z).kept page) made ∙ kept_same e (or_new x) d.taken page none;
@@ -130,14 +131,14 @@ module _ (w : Width) (rows : Rows) (c : List ℕ) (layouts : List ℕ → Option
         cut = cut;
         objects = h.puts.objects ∙ ap (λ t. finite.insert (finite.remove old.objects o) o t)
             (λ i. record h.before { now = put_now i; left = h.before.left || has_any (tells.left i) });
-        left = h.adds.left ∙ ap (λ es. old.left.items ++ flat_map (λ p. own_units p.1) es) tells.left;
+        left = h.adds.left ∙ ap (λ es. old.left.items ++ flat_map (λ p. units_released p.1) es) tells.left;
       });
       adds = edit_added ops op at d lt op_is name num old new h.edited edits tells was.taken h.adds;
       there = h.puts.there;
     }
 
   -- it is missing, and stays so
-  module _ (made : draft_after op d.taken x ≡ x) (idle : IsIdle op d) (h : LeavesObject w rows c op old new) where
+  module _ (made : draft_after op d ≡ x) (idle : IsIdle op d) (h : LeavesObject w rows c op old new) where
     abbrev none_pass : ℕ → Bool
     none_pass page = false
 
@@ -159,14 +160,14 @@ module _ (w : Width) (rows : Rows) (c : List ℕ) (layouts : List ℕ → Option
         cut = record { none = λ page never. absurd cc; same = λ page none. ap (λ z. finite.get (or_new z).kept page) made };
         objects = h.puts.objects ∙ ap (λ t. finite.insert (finite.remove old.objects o) o t)
             (λ i. record h.before { now = (missing_is.now_is ∙ sym made) i; left = left_is i });
-        left = h.nothing.left ∙ append_none old.left.items ∙ ap (λ es. old.left.items ++ flat_map (λ p. own_units p.1) es) (sym no_page);
+        left = h.nothing.left ∙ append_none old.left.items ∙ ap (λ es. old.left.items ++ flat_map (λ p. units_released p.1) es) (sym no_page);
       });
       adds = nothing_added ops op d old new idle h.nothing.writes h.nothing.places h.nothing.taken;
       there = h.puts.there;
     }
 
   -- it goes
-  pub dropped : draft_after op d.taken x ≡ None → IsIdle op d → DropsObject w rows c o old new → Carries rows c layouts ops op d old new
+  pub dropped : draft_after op d ≡ None → IsIdle op d → DropsObject w rows c o old new → Carries rows c layouts ops op d old new
   dropped made idle h = record {
     stand = by_move (record {
       before = h.before;
@@ -174,7 +175,7 @@ module _ (w : Width) (rows : Rows) (c : List ℕ) (layouts : List ℕ → Option
       test = λ page. true;
       cut = record { none = λ page all. ap (λ z. finite.get (or_new z).kept page) made ∙ finite.get-empty nat_cmp page; same = λ page never. absurd cc };
       objects = h.puts.objects ∙ ap (λ t. finite.insert (finite.remove old.objects o) o t) (λ i. record h.before { now = sym made i; left = h.before.left || has_any (all i) });
-      left = h.left ∙ ap (λ es. old.left.items ++ flat_map (λ p. own_units p.1) es) all;
+      left = h.left ∙ ap (λ es. old.left.items ++ flat_map (λ p. units_released p.1) es) all;
     });
     adds = nothing_added ops op d old new idle h.writes h.places h.taken;
     there = h.puts.there;
@@ -209,7 +210,7 @@ module _ (w : Width) (rows : Rows) (c : List ℕ) (layouts : List ℕ → Option
   carried (Truncate u to) of name taken on (inr h) =
       let none : d.layout u ≡ None = sym (h.stands layouts d was have).now_is ∙ h.missing in
       left_missing w rows c layouts have ops (Truncate u to) at d lt of name taken r old new was
-      (ap (λ z. draft_after (Truncate u to) d.taken z) none ∙ sym none) (idle_by (Truncate u to) d (ap (λ z. edit_on (Truncate u to) z) none)) h
+      (ap (λ z. option_map_or (λ e. Some (drafted e d.taken (or_new z))) (edit_on (Truncate u to) z) z) none ∙ sym none) (idle_by (Truncate u to) d (ap (λ z. edit_on (Truncate u to) z) none)) h
   carried (Remove u) of name taken on h =
       dropped w rows c layouts have ops (Remove u) at d lt of name taken r old new was refl (idle_by (Remove u) d refl) h
   carried op of name taken on same =

@@ -11,24 +11,25 @@ use Rattle.unit_fields.specs.Prelude.{IsName, IsCollName}
 use Rattle.unit_fields.specs.declared.width.Width.{Width}
 use Rattle.object_model.specs.Prelude.{Change}
 use Rattle.meta_rows.specs.Prelude.{Rows}
-use Rattle.row_format.specs.Prelude.{coll_key, onode_key, shard_key, BeginsAt, Place}
+use Rattle.row_format.specs.Prelude.{coll_key, onode_key, shard_key, Extent, Place}
+use Rattle.extent_shards.specs.Prelude.{shard_bytes, shard_at}
 use Rattle.row_facts.proofs.Maps.{get_same, get_other}
-use Rattle.row_changes.specs.Prelude.{ChangeMap, seen}
+use Rattle.row_changes.specs.Prelude.{ChangeMap, value_seen}
 use Rattle.store_image.specs.Prelude.{pages_of}
 use Rattle.store_image.proofs.Prelude.{equal_or_not}
 use Rattle.plan_drafts.specs.declared.draft.Draft.{Draft}
-use Rattle.plan_drafts.specs.Prelude.{Held, is_there, Layout, HasLayout, or_empty, IsKeyOf, size_at, extents_at, AreReplaced, GetsLayout, stays, replaces, ValueKey, value_key, IsValueKey, CollDraft, laid, laid_at, IsKeyOfColl, GetsDraft}
-use Rattle.draft_rows.proofs.Laid.{laid_cases, StandsAt, by_taking, as_before}
-use Rattle.draft_rows.proofs.Reached.{IsReached}
+use Rattle.plan_drafts.specs.Prelude.{Held, is_there, Layout, HasLayout, or_empty, IsKeyOf, size_at, AreCut, GetsShards, stay, cut, GetsLayout, ValueKey, value_key, IsValueKey, CollDraft, laid, laid_at, IsKeyOfColl, GetsDraft}
+use Rattle.plan_proofs.proofs.Laid.{laid_cases, StandsAt, by_taking, as_before}
+use Rattle.plan_proofs.proofs.Reached.{IsReached}
 use Rattle.txn_planner.specs.declared.planning.Planning.{Planning}
 use Rattle.txn_planner.specs.declared.touched.Touched.{Touched}
 use Rattle.txn_planner.specs.Planning.{IsStateOf}
 use Rattle.txn_planner.specs.Touching.{IsTouched}
-use Rattle.txn_planner.specs.Laying.{differs, is_changed, TakesBelow, AllTakeBelow, AllNamed, laid_now, with_objects, coll_row, is_on_coll, with_rows, HasCollRow, AreNew, HaveNumbers, IsChangesOf}
+use Rattle.txn_planner.specs.Laying.{is_moved, PutsBelow, AllTakeBelow, AllNamed, laid_now, cut_of, with_objects, coll_row, is_on_coll, with_rows, HasCollRow, AreNew, HaveNumbers, IsChangesOf}
 use Rattle.page_edits.proofs.Lists.{contains_in}
 use Rattle.txn_planner.proofs.ObjectNames.{among_keys}
-use Rattle.txn_planner.proofs.SameLayouts.{begins_stands, laid_again, same_layout, other_layout}
-use Rattle.txn_planner.proofs.ObjectRows.{coll_apart, value_apart, value_no_coll, IsAnew, AreSound, Keeps, objects_others, objects_kept, objects_anew}
+use Rattle.txn_planner.proofs.SameLayouts.{laid_again, same_pages, other_pages}
+use Rattle.txn_planner.proofs.ObjectRows.{coll_apart, value_apart, value_no_coll, IsCutOver, AreSmall, IsLaid, AreSound, objects_others, objects_kept, objects_laid}
 
 -- what a page that stands somewhere is in one of the draft's maps
 stands_there : (units : List ℕ) (held : Held) (x : Draft) (page : ℕ) (place : Place) → StandsAt units held x page place → is_there x page ≡ true
@@ -48,21 +49,18 @@ module _ (w : Width) (rows : Rows) (change : Change) (coll : IsCollName change.c
   c = change.coll
 
   abbrev changes : ChangeMap
-  changes = with_objects w c units held (finite.keys p.objects) p.objects p.values
+  changes = with_objects w rows c units held (finite.keys p.objects) p.objects p.values
 
   -- the changes, where an operation is on the collection or none is
   abbrev either_rows : Bool → ChangeMap
   either_rows b = cond b (finite.insert changes (coll_key c) (coll_row p.there)) changes
 
-  begins_below : (o : List ℕ) (t : Touched) → finite.get p.objects o ≡ Some t → (page : ℕ) → BeginsAt page (extents_at (laid_now units held t))
-      → page < 2 ^ 32
-  begins_below o t is page begins =
-      let stands = begins_stands (or_empty (laid_now units held t)).pages page begins in by t.now refl stands.0 stands.1
+  small_now : (o : List ℕ) (t : Touched) → finite.get p.objects o ≡ Some t → AreSmall (or_empty (laid_now units held t)).pages
+  small_now o t is page place = by t.now refl
     where
-      by : (z : Option Draft) → t.now ≡ z → (place : Place) → finite.get (or_empty (option_map (laid units held) z)).pages page ≡ Some place
-          → page < 2 ^ 32
-      by None q place found = absurd (let none = sym (finite.get-empty nat_cmp page) ∙ found in cc)
-      by (Some x) q place found =
+      by : (z : Option Draft) → t.now ≡ z → finite.get (or_empty (option_map (laid units held) z)).pages page ≡ Some place → page < 2 ^ 32
+      by None q found = absurd (let none = sym (finite.get-empty nat_cmp page) ∙ found in cc)
+      by (Some x) q found =
           let touched = state.touched o t is in
           numbers o x touched.named (sym touched.now_is ∙ q) page (stands_there units held x page place (laid_cases units held x page place found))
 
@@ -70,7 +68,7 @@ module _ (w : Width) (rows : Rows) (change : Change) (coll : IsCollName change.c
   sound = record {
     named = λ o t is. (state.touched o t is).named;
     below = λ o t is. (state.touched o t is).shards.below;
-    numbers = begins_below;
+    numbers = small_now;
   }
 
   -- no onode and no shard is among the values
@@ -83,14 +81,14 @@ module _ (w : Width) (rows : Rows) (change : Change) (coll : IsCollName change.c
 
   -- a value's key is as it was
   value_kept : (o : List ℕ) (k : ValueKey) → IsValueKey k → finite.get changes (value_key c o k) ≡ finite.get p.values (value_key c o k)
-  value_kept o k named = elim (objects_others w c coll units held (finite.keys p.objects) p.objects p.values sound (value_key c o k)) [
+  value_kept o k named = elim (objects_others w rows c coll units held (finite.keys p.objects) p.objects p.values sound (value_key c o k)) [
     | inl its ↦ absurd (value_apart c its.0 o (value_key c o k) its.2 (record { of = k; named = named; is = refl }))
     | inr same ↦ same
   ]
 
   -- nor is the row of the collection
   no_coll : finite.get changes (coll_key c) ≡ None
-  no_coll = elim (objects_others w c coll units held (finite.keys p.objects) p.objects p.values sound (coll_key c)) [
+  no_coll = elim (objects_others w rows c coll units held (finite.keys p.objects) p.objects p.values sound (coll_key c)) [
     | inl its ↦ absurd (coll_apart c its.0 (coll_key c) its.2 refl)
     | inr same ↦ same ∙ by (finite.get p.values (coll_key c)) refl
   ]
@@ -99,7 +97,7 @@ module _ (w : Width) (rows : Rows) (change : Change) (coll : IsCollName change.c
       by None q = refl
       by (Some v) q = let its = state.of_values (coll_key c) (ap is_some q) in absurd (value_no_coll c its.0 its.2.of (sym its.2.is))
 
-  rows_others : (key : List ℕ) → (key ≡ coll_key c → ⊥) → finite.get (with_rows w change units held p) key ≡ finite.get changes key
+  rows_others : (key : List ℕ) → (key ≡ coll_key c → ⊥) → finite.get (with_rows w rows change units held p) key ≡ finite.get changes key
   rows_others key apart = elim (cases_Bool (list_any is_on_coll change.ops)) [
     | inl on ↦ ap (λ b. finite.get (either_rows b) key) on ∙ get_other changes (coll_key c) (coll_row p.there) key apart
     | inr none ↦ ap (λ b. finite.get (either_rows b) key) none
@@ -113,7 +111,7 @@ module _ (w : Width) (rows : Rows) (change : Change) (coll : IsCollName change.c
       by None none = none
       by (Some l) there = there.0.stands
 
-  module _ (after : Rows) (are : (key : List ℕ) → finite.get after key ≡ seen rows (with_rows w change units held p) key) where
+  module _ (after : Rows) (are : (key : List ℕ) → finite.get after key ≡ value_seen rows (with_rows w rows change units held p) key) where
     abbrev seen_as : List ℕ → Option (Option (List ℕ)) → Option (List ℕ)
     seen_as key z = unwrap_or z (finite.get rows key)
 
@@ -134,13 +132,27 @@ module _ (w : Width) (rows : Rows) (change : Change) (coll : IsCollName change.c
     -- ---- an object
 
     module _ (o : List ℕ) (name : IsName o) where
-      rows_stay : Keeps p.objects o → (key : List ℕ) → IsKeyOf c o key → finite.get after key ≡ finite.get rows key
-      rows_stay keeps key of = seen_object o key of ∙ ap (seen_as key)
-          (objects_kept w c coll units held (finite.keys p.objects) p.objects p.values o name sound keeps key of ∙ no_value o key of)
+      seen_onode : finite.get after (onode_key c o) ≡ seen_as (onode_key c o) (finite.get changes (onode_key c o))
+      seen_onode = seen_object o (onode_key c o) (inl refl)
+
+      seen_shard : (page : ℕ) → page < 2 ^ 32 → finite.get after (shard_key c o page) ≡ seen_as (shard_key c o page) (finite.get changes (shard_key c o page))
+      seen_shard page lt = seen_object o (shard_key c o page) (inr (page, lt, refl))
 
       -- one that no operation has looked at
-      untouched_same : finite.get p.objects o ≡ None → layouts o ≡ laid_at units held d o
-      untouched_same is = laid_again units held (layouts o) ∙ ap (option_map (laid units held)) (sym (state.untouched o name is))
+      module _ (none : finite.get p.objects o ≡ None) where
+        untouched_same : layouts o ≡ laid_at units held d o
+        untouched_same = laid_again units held (layouts o) ∙ ap (option_map (laid units held)) (sym (state.untouched o name none))
+
+        no_change : (key : List ℕ) → IsKeyOf c o key → finite.get changes key ≡ None
+        no_change key of = objects_kept w rows c coll units held (finite.keys p.objects) p.objects p.values o name sound none key of ∙ no_value o key of
+
+        gets_untouched : GetsLayout w rows after c o (layouts o) (laid_at units held d o)
+        gets_untouched = record {
+          onode = seen_onode ∙ ap (seen_as (onode_key c o)) (no_change (onode_key c o) (inl refl)) ∙ onode_had o name
+              ∙ ap (λ z. option_map (to_le_bytes w64) (size_at z)) untouched_same;
+          shards = stay (ap (λ z. (or_empty z).pages) untouched_same)
+              (λ page lt. seen_shard page lt ∙ ap (seen_as (shard_key c o page)) (no_change (shard_key c o page) (inr (page, lt, refl))));
+        }
 
       -- one that some have
       module _ (t : Touched) (is : finite.get p.objects o ≡ Some t) where
@@ -150,58 +162,67 @@ module _ (w : Width) (rows : Rows) (change : Change) (coll : IsCollName change.c
         now_laid : laid_now units held t ≡ laid_at units held d o
         now_laid = ap (option_map (laid units held)) touched.now_is
 
-        as_draft : is_changed t ≡ differs (size_at (layouts o)) t.left (d.layout o)
-        as_draft = λ i. differs (touched.before i) t.left (touched.now_is i)
+        as_draft : is_moved t.left t.now ≡ is_moved t.left (d.layout o)
+        as_draft = ap (is_moved t.left) touched.now_is
 
-        takes : TakesBelow (length units) (d.layout o)
-        takes = subst (TakesBelow (length units)) touched.now_is (below o t is)
+        takes : PutsBelow (length units) (d.layout o)
+        takes = subst (PutsBelow (length units)) touched.now_is (below o t is)
 
-        keeps_it : is_changed t ≡ false → Keeps p.objects o
-        keeps_it same u found = let one : Some u ≡ Some t = sym found ∙ is in let e : u ≡ t = cc in ap is_changed e ∙ same
+        lays : IsLaid w rows c o t (laid_now units held t) p.values changes
+        lays = objects_laid w rows c coll units held (finite.keys p.objects) p.objects p.values o t name sound (among_keys p.objects o t is) is
 
-        touched_same : is_changed t ≡ false → layouts o ≡ laid_at units held d o
-        touched_same same = same_layout units held (layouts o) t.left (d.layout o) touched.kept (sym as_draft ∙ same)
+        onode_now : finite.get after (onode_key c o) ≡ option_map (to_le_bytes w64) (size_at (laid_now units held t))
+        onode_now = seen_onode ∙ elim lays.onode [
+          | inl says ↦ ap (seen_as (onode_key c o)) says
+          | inr kept ↦ ap (seen_as (onode_key c o)) (kept.1 ∙ no_value o (onode_key c o) (inl refl)) ∙ onode_had o name
+              ∙ ap (option_map (to_le_bytes w64)) (sym touched.before ∙ kept.0)
+        ]
 
-        touched_other : is_changed t ≡ true → layouts o ≡ laid_at units held d o → ⊥
-        touched_other changed = other_layout units held (layouts o) (λ page unit csum. new o page unit csum name) t.left (d.layout o) touched.gone takes
-            (sym as_draft ∙ changed)
+        -- ---- its map is cut anew
 
-        replaced : is_changed t ≡ true → AreReplaced w after c o (size_at (laid_now units held t)) (extents_at (laid_now units held t))
-        replaced changed = record {
-          onode = seen_object o (onode_key c o) (inl refl) ∙ elim anew.onode [
-            | inl says ↦ ap (seen_as (onode_key c o)) says
-            | inr kept ↦ ap (seen_as (onode_key c o)) (kept.1 ∙ no_value o (onode_key c o) (inl refl)) ∙ onode_had o name
-                ∙ ap (option_map (to_le_bytes w64)) (sym touched.before ∙ kept.0)
-          ];
-          shard = λ page begins. seen_object o (shard_key c o page) (inr (page, begins_below o t is page begins, refl))
-              ∙ ap (seen_as (shard_key c o page)) (anew.shard page begins);
-          no_other = λ page lt not. seen_object o (shard_key c o page) (inr (page, lt, refl)) ∙ none page lt not (finite.get rows (shard_key c o page)) refl;
-        }
-          where
-            anew : IsAnew w c o t.before t.shards.items (laid_now units held t) p.values changes
-            anew = objects_anew w c coll units held (finite.keys p.objects) p.objects p.values o t name sound (among_keys p.objects o t is) is changed
+        module _ (cut_over : IsCutOver w rows c o t.shards.items (or_empty (laid_now units held t)).pages p.values changes) where
+          abbrev shards : List (List Extent)
+          shards = cut_of w (or_empty (laid_now units held t)).pages
 
-            -- a shard that was there is gone, and one that wasn't is none
-            none : (page : ℕ) → page < 2 ^ 32 → (BeginsAt page (extents_at (laid_now units held t)) → ⊥) → (z : Option (List ℕ))
-                → finite.get rows (shard_key c o page) ≡ z → seen_as (shard_key c o page) (finite.get changes (shard_key c o page)) ≡ None
-            none page lt not (Some value) q =
-                ap (seen_as (shard_key c o page)) (anew.gone page lt not (contains_in t.shards.items page (touched.shards.all page lt (ap is_some q))))
-            none page lt not None q = elim (anew.other page lt not) [
-              | inl gone ↦ ap (seen_as (shard_key c o page)) gone
-              | inr same ↦ ap (seen_as (shard_key c o page)) (same ∙ no_value o (shard_key c o page) (inr (page, lt, refl))) ∙ q
-            ]
+          -- a shard that was there is gone, and one that wasn't is none
+          none_now : (page : ℕ) → page < 2 ^ 32 → shard_at shards page ≡ None → (z : Option (List ℕ)) → finite.get rows (shard_key c o page) ≡ z
+              → seen_as (shard_key c o page) (finite.get changes (shard_key c o page)) ≡ None
+          none_now page lt none (Some value) q =
+              ap (seen_as (shard_key c o page)) (cut_over.gone page lt none (contains_in t.shards.items page (touched.shards.all page lt (ap is_some q))))
+          none_now page lt none None q = elim (cut_over.other page lt none) [
+            | inl gone ↦ ap (seen_as (shard_key c o page)) gone
+            | inr same ↦ ap (seen_as (shard_key c o page)) (same ∙ no_value o (shard_key c o page) (inr (page, lt, refl))) ∙ q
+          ]
+
+          shard_now : (page : ℕ) → page < 2 ^ 32 → (z : Option (List Extent)) → shard_at shards page ≡ z
+              → seen_as (shard_key c o page) (finite.get changes (shard_key c o page)) ≡ option_map (shard_bytes w) z
+          shard_now page lt None q = none_now page lt q (finite.get rows (shard_key c o page)) refl
+          shard_now page lt (Some es) q = elim (cut_over.come page es lt q) [
+            | inl says ↦ ap (seen_as (shard_key c o page)) says
+            | inr kept ↦ ap (seen_as (shard_key c o page)) (kept.1 ∙ no_value o (shard_key c o page) (inr (page, lt, refl))) ∙ kept.0
+          ]
+
+          are_cut : AreCut w after c o (or_empty (laid_now units held t)).pages
+          are_cut page lt = seen_shard page lt ∙ shard_now page lt (shard_at shards page) refl
+
+        shards_now : GetsShards w rows after c o (or_empty (layouts o)).pages (or_empty (laid_at units held d o)).pages
+        shards_now = elim (cases_Bool (is_moved t.left t.now)) [
+          | inl moved ↦ cut
+              (other_pages units held (layouts o) (λ page unit csum. new o page unit csum name) t.left (d.layout o) touched.gone takes (sym as_draft ∙ moved))
+              (subst (λ z. AreCut w after c o (or_empty z).pages) now_laid (are_cut (lays.moved moved)))
+          | inr not ↦ stay (same_pages units held (layouts o) t.left (d.layout o) touched.kept (sym as_draft ∙ not))
+              (λ page lt. seen_shard page lt
+              ∙ ap (seen_as (shard_key c o page)) (lays.still not page lt ∙ no_value o (shard_key c o page) (inr (page, lt, refl))))
+        ]
 
         gets_touched : GetsLayout w rows after c o (layouts o) (laid_at units held d o)
-        gets_touched = elim (cases_Bool (is_changed t)) [
-          | inl changed ↦ replaces (touched_other changed) (subst (λ z. AreReplaced w after c o (size_at z) (extents_at z)) now_laid (replaced changed))
-          | inr same ↦ stays (touched_same same) (rows_stay (keeps_it same))
-        ]
+        gets_touched = record { onode = onode_now ∙ ap (λ z. option_map (to_le_bytes w64) (size_at z)) now_laid; shards = shards_now }
 
       gets_object : GetsLayout w rows after c o (layouts o) (laid_at units held d o)
       gets_object = by (finite.get p.objects o) refl
         where
           by : (z : Option Touched) → finite.get p.objects o ≡ z → GetsLayout w rows after c o (layouts o) (laid_at units held d o)
-          by None q = stays (untouched_same q) (rows_stay (λ t is. absurd (let none = sym q ∙ is in cc)))
+          by None q = gets_untouched q
           by (Some t) q = gets_touched t q
 
     -- ---- values, and all other rows
@@ -213,7 +234,7 @@ module _ (w : Width) (rows : Rows) (change : Change) (coll : IsCollName change.c
     others : (key : List ℕ) → IsKeyOfColl c key ⊎ (finite.get after key ≡ finite.get rows key)
     others key = elim (equal_or_not key (coll_key c)) [
       | inl e ↦ inl (inl e)
-      | inr apart ↦ elim (objects_others w c coll units held (finite.keys p.objects) p.objects p.values sound key) [
+      | inr apart ↦ elim (objects_others w rows c coll units held (finite.keys p.objects) p.objects p.values sound key) [
         | inl its ↦ inl (inr (its.0, its.1, inl its.2))
         | inr same ↦ by apart same (finite.get p.values key) refl
       ]
@@ -229,7 +250,7 @@ module _ (w : Width) (rows : Rows) (change : Change) (coll : IsCollName change.c
 
 -- the changes at the end are those of the state
 pub are_changes : (w : Width) (rows : Rows) (change : Change) → IsCollName change.coll → (p : Planning) (units : List ℕ) (held : Held)
-    → AllTakeBelow (length units) p.objects → IsChangesOf w rows change p units held (with_rows w change units held p)
+    → AllTakeBelow (length units) p.objects → IsChangesOf w rows change p units held (with_rows w rows change units held p)
 are_changes w rows change coll p units held below layouts d state has had new numbers after are =
     gets_draft w rows change coll p units held below layouts d state has had new numbers after are
 

@@ -14,8 +14,8 @@ use Rattle.meta_log.specs.declared.slot.Super.{Super}
 use Rattle.meta_log.specs.Prelude.{width_of}
 use Rattle.unit_fields.specs.Prelude.{Ascends}
 use Rattle.unit_fields.specs.declared.width.Width.{Width}
-use Rattle.row_format.specs.Prelude.{own, coll_key, Row, collection, onode, shard, attribute, omap_header, omap_pair, bitmap, row_key, row_value}
-use Rattle.row_format.proofs.Prelude.{same_head, coll_no_object}
+use Rattle.row_format.specs.Prelude.{own, coll_key, Row, row_key, row_value, FitsRow}
+use Rattle.row_format.proofs.Prelude.{under_coll}
 use Rattle.store_image.specs.Prelude.{page_of, NoBadRow}
 use Rattle.unit_allocator.specs.Prelude.{Space, free_units}
 use Rattle.unit_allocator.proofs.Lists.{Contains-head, Contains-tail, Contains-cases}
@@ -23,13 +23,13 @@ use Rattle.plan_rows.specs.declared.plan.Plan.{Plan}
 use Rattle.plan_rows.specs.declared.plan.ReadUnit.{ReadUnit}
 use Rattle.plan_drafts.specs.declared.draft.Draft as object
 use Rattle.plan_drafts.specs.Prelude.{Held, Layout, HasLayout, there_after, CollDraft, with_op, with_ops, places_of, held_by, none_held, AreTaken, draft_of, AreReadAt, Stands, filled, fresh_units, AreFreeOver, MakesDraft, Plans}
-use Rattle.draft_rows.proofs.DraftOwners.{layout_pages}
-use Rattle.draft_rows.proofs.Reached.{IsReached}
-use Rattle.draft_rows.proofs.Takings.{all_listed}
-use Rattle.onode_state.specs.Objects.{AreRowsOfWidth}
+use Rattle.plan_proofs.proofs.DraftOwners.{layout_pages}
+use Rattle.plan_proofs.proofs.Reached.{IsReached}
+use Rattle.plan_proofs.proofs.Takings.{all_listed}
+use Rattle.object_rows.specs.Stores.{AreRowsOfWidth}
 use Rattle.row_changes.specs.Prelude.{ChangeMap}
 use Rattle.page_edits.specs.Writes.{after_writes, held_in, CanBeMade}
-use Rattle.txn_planner.specs.declared.drafts.Draft.{Draft}
+use Rattle.txn_planner.specs.declared.drafts.TxnDraft.{TxnDraft}
 use Rattle.txn_planner.specs.declared.planning.Planning.{Planning}
 use Rattle.txn_planner.specs.declared.touched.Touched.{Touched}
 use Rattle.txn_planner.specs.Drafts.{places_in, IsDraftFor}
@@ -61,14 +61,8 @@ none_put (Some l) x page taking is put =
 -- ---- the row of the collection
 
 -- that of a collection has no bytes
-coll_empty : (w : Width) (c value : List ℕ) (row : Row) → coll_key c ≡ row_key row → value ≡ row_value w row → value ≡ []
-coll_empty w c value (collection d) key is = is
-coll_empty w c value (onode d o size) key is = absurd (coll_no_object c d o _ key)
-coll_empty w c value (shard d o page extents) key is = absurd (coll_no_object c d o _ key)
-coll_empty w c value (attribute d o name v) key is = absurd (omega (arith, same_head _ _ _ _ key))
-coll_empty w c value (omap_header d o v) key is = absurd (omega (arith, same_head _ _ _ _ key))
-coll_empty w c value (omap_pair d o k v) key is = absurd (omega (arith, same_head _ _ _ _ key))
-coll_empty w c value (bitmap r bits) key is = absurd (omega (arith, same_head _ _ _ _ key))
+coll_empty : (w : Width) (c value : List ℕ) (row : Row) → FitsRow w row → coll_key c ≡ row_key row → value ≡ row_value w row → value ≡ []
+coll_empty w c value row fits key is = is ∙ ap (row_value w) (under_coll w c row fits key)
 
 coll_rows : (s : Super) (rows : Rows) → NoBadRow s rows → (c : List ℕ)
     → finite.get rows (coll_key c) ≡ coll_row (finite.contains_key rows (coll_key c))
@@ -76,7 +70,7 @@ coll_rows s rows good c = by (finite.get rows (coll_key c)) refl
   where
     by : (z : Option (List ℕ)) → finite.get rows (coll_key c) ≡ z → z ≡ coll_row (is_some z)
     by None q = refl
-    by (Some value) q = let g = good (coll_key c) value q in ap Some (coll_empty (width_of s) c value g.row g.key_is g.value_is)
+    by (Some value) q = let g = good (coll_key c) value q in ap Some (coll_empty (width_of s) c value g.row g.fits g.key_is g.value_is)
 
 -- operations of which none is on the collection leave it there or not, as it was
 same_after : (op : Op) (b : Bool) → is_on_coll op ≡ false → there_after op b ≡ b
@@ -89,7 +83,7 @@ same_there (op ∷ ops) d none =
     let parts = or_parts (is_on_coll op) (list_any is_on_coll ops) none in
     same_there ops (with_op op d) parts.1 ∙ same_after op d.there parts.0
 
-module _ (w : Width) (change : Change) (rows : Rows) (space : Space) (draft : Draft) (good : AreRowsOfWidth w rows)
+module _ (w : Width) (change : Change) (rows : Rows) (space : Space) (draft : TxnDraft) (good : AreRowsOfWidth w rows)
     (is : IsDraftFor w change rows space draft) where
   abbrev c : List ℕ
   c = change.coll
@@ -192,7 +186,7 @@ module _ (w : Width) (change : Change) (rows : Rows) (space : Space) (draft : Dr
     pub are_left : (unit : ℕ) → Contains plan.released unit ↔ Contains p.left.items unit
     pub left_ascend : Ascends plan.released
     pub changes : ChangeMap
-    pub are_changes : (table : Rows) → IsChangesOf w table change p draft.units.items (held_in contents) changes
+    pub are_changes : IsChangesOf w rows change p draft.units.items (held_in contents) changes
     pub ops : AreRowOps rows changes (fresh_units plan) plan.released plan.ops
 
   module _ (read : List ReadUnit) (at : AreReadAt (places_in draft) read) (plan : Plan) (m : IsMade read plan) where
@@ -225,7 +219,7 @@ module _ (w : Width) (change : Change) (rows : Rows) (space : Space) (draft : Dr
         ops_are = m.ops.ops_are;
         in_order = m.ops.by_changes.in_order;
         changes = m.ops.by_changes.changes;
-        gets = m.are_changes rows layouts y state is.asks.begins.has had_coll are_new numbers (rows_after rows m.ops.difference) m.ops.by_changes.makes;
+        gets = m.are_changes layouts y state is.asks.begins.has had_coll are_new numbers (rows_after rows m.ops.difference) m.ops.by_changes.makes;
         takings = m.takings;
         ascend = m.ascend;
         are_standing = λ t. (λ k. (stands_by t).0 ((m.are_put t).0 k), λ st. (m.are_put t).1 ((stands_by t).1 st));

@@ -3,7 +3,7 @@ use Rattle.std.proofs.Common.{◌≡◌, ℕ, zero, suc, ◌+◌, ◌<◌, List,
 use Rattle.object_model.specs.declared.op.Op.{Op}
 use Rattle.object_model.specs.declared.op.Refusal.{Refusal}
 use Rattle.plan_rows.specs.declared.plan.ReadUnit.{ReadUnit}
-use Rattle.plan_drafts.specs.Prelude.{Held, object_of, places_on, CollDraft, with_op, with_ops, places_of, held_after, held_by, IsTaken, AreTaken, IsRefused, AreRefused, here, later}
+use Rattle.plan_drafts.specs.Prelude.{Held, places_on, CollDraft, with_op, with_ops, places_of, held_after, held_by, IsTaken, AreTaken, IsRefused, AreRefused, here, later}
 use Rattle.page_edits.specs.Writes.{op_at}
 
 -- the next one stands behind the first n
@@ -36,15 +36,15 @@ module _ (op : Op) where
   taken_next (x ∷ ops) d are is = (are.0, taken_next ops (with_op x d) are.1 is)
 
   pub places_next : (ops : List Op) (d : CollDraft)
-      → places_of (ops ++ op ∷ []) d ≡ places_of ops d ++ places_on op ((with_ops ops d).layout (object_of op))
-  places_next [] d = append_none (places_on op (d.layout (object_of op)))
+      → places_of (ops ++ op ∷ []) d ≡ places_of ops d ++ places_on op (with_ops ops d)
+  places_next [] d = append_none (places_on op d)
     where
       append_none : {X : Type 0} (xs : List X) → xs ++ [] ≡ xs
       append_none [] = refl
       append_none (x ∷ xs) = ap (λ l. x ∷ l) (append_none xs)
-  places_next (x ∷ ops) d = ap (λ ps. places_on x (d.layout (object_of x)) ++ ps) (places_next ops (with_op x d))
-      ∙ sym (append_assoc (places_on x (d.layout (object_of x))) (places_of ops (with_op x d))
-      (places_on op ((with_ops ops (with_op x d)).layout (object_of op))))
+  places_next (x ∷ ops) d = ap (λ ps. places_on x d ++ ps) (places_next ops (with_op x d))
+      ∙ sym (append_assoc (places_on x d) (places_of ops (with_op x d))
+      (places_on op (with_ops ops (with_op x d))))
 
   pub held_next : (read : List ReadUnit) (ops : List Op) (d : CollDraft) (held : Held)
       → held_by read (ops ++ op ∷ []) d held ≡ held_after read op (with_ops ops d) (held_by read ops d held)

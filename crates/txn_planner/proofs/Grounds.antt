@@ -12,11 +12,11 @@ use Rattle.unit_fields.specs.declared.width.Width.{Width}
 use Rattle.plan_rows.specs.declared.plan.ReadUnit.{ReadUnit}
 use Rattle.plan_drafts.specs.declared.draft.Draft.{Draft}
 use Rattle.plan_drafts.specs.Prelude.{Layout, HasLayout, CollDraft, with_ops, held_by, none_held, AreTaken, Begins, draft_of}
-use Rattle.onode_state.specs.Objects.{AreRowsOfWidth}
-use Rattle.draft_rows.proofs.DraftBytes.{AllWhole, all_whole}
-use Rattle.draft_rows.proofs.DraftStart.{reached_first}
-use Rattle.draft_rows.proofs.EditFacts.{the_edit_laws, the_length_law, the_byte_laws}
-use Rattle.draft_rows.proofs.Reached.{IsReached, reached}
+use Rattle.object_rows.specs.Stores.{AreRowsOfWidth}
+use Rattle.plan_proofs.proofs.DraftBytes.{AllWhole, all_whole}
+use Rattle.plan_proofs.proofs.DraftStart.{reached_first}
+use Rattle.plan_proofs.proofs.EditFacts.{the_edit_laws, the_length_law, the_byte_laws}
+use Rattle.plan_proofs.proofs.Reached.{IsReached, reached}
 use Rattle.txn_planner.specs.Planning.{first_draft, IsGround}
 
 module _ (w : Width) (rows : Rows) (good : AreRowsOfWidth w rows) (change : Change) (layouts : List ℕ → Option Layout)

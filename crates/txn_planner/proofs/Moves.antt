@@ -14,10 +14,10 @@ use Rattle.row_format.specs.Prelude.{Place}
 use Rattle.store_image.proofs.Prelude.{equal_or_not}
 use Rattle.row_facts.proofs.Maps.{get_same, get_other}
 use Rattle.plan_drafts.specs.declared.draft.Draft.{Draft}
-use Rattle.plan_drafts.specs.Prelude.{IsOnObject, own_units, Layout, or_empty, or_new, object_of, draft_after, units_on, CollDraft, with_op, draft_of, Leaves, ValueKey, value_key, value_after, there_after, at_name}
-use Rattle.draft_rows.proofs.Effects.{get_apart}
-use Rattle.draft_rows.proofs.Names.{at_here, at_other}
-use Rattle.row_changes.specs.Prelude.{seen}
+use Rattle.plan_drafts.specs.Prelude.{IsOnObject, units_released, Layout, or_empty, or_new, object_of, CollDraft, object_before, draft_after, units_on, with_op, draft_of, Leaves, ValueKey, value_key, value_after, there_after, at_name, values_on}
+use Rattle.plan_proofs.proofs.Effects.{get_apart}
+use Rattle.plan_proofs.proofs.Names.{at_here, at_other}
+use Rattle.row_changes.specs.Prelude.{value_seen}
 use Rattle.value_changes.specs.Changed.{ChangesValues}
 use Rattle.txn_planner.specs.declared.planning.Planning.{Planning}
 use Rattle.txn_planner.specs.declared.touched.Touched.{Touched}
@@ -79,12 +79,12 @@ pub record Moves (rows : Rows) (c : List ℕ) (layouts : List ℕ → Option Lay
   pub before : Touched
   pub is : IsTouched rows c (object_of op) (layouts (object_of op)) (d.layout (object_of op)) before
   pub test : ℕ → Bool
-  pub cut : IsCut (d.layout (object_of op)) (draft_after op d.taken (d.layout (object_of op))) test
+  pub cut : IsCut (d.layout (object_of op)) (draft_after op d) test
   pub objects : new.objects ≡ finite.insert (finite.remove old.objects (object_of op)) (object_of op) (record before {
-    now = draft_after op d.taken (d.layout (object_of op));
+    now = draft_after op d;
     left = before.left || has_any (were (d.layout (object_of op)) test);
   })
-  pub left : new.left.items ≡ old.left.items ++ flat_map (λ p. own_units p.1) (were (d.layout (object_of op)) test)
+  pub left : new.left.items ≡ old.left.items ++ flat_map (λ p. units_released p.1) (were (d.layout (object_of op)) test)
 
 module _ (w : Width) (rows : Rows) (c : List ℕ) (layouts : List ℕ → Option Layout) (op : Op) (d : CollDraft) (old new : Planning)
     (stood : (page : ℕ) (place : Place) → finite.get (or_new (d.layout (object_of op))).kept page ≡ Some place
@@ -94,7 +94,7 @@ module _ (w : Width) (rows : Rows) (c : List ℕ) (layouts : List ℕ → Option
   o = object_of op
 
   abbrev y : Option Draft
-  y = draft_after op d.taken (d.layout o)
+  y = draft_after op d
 
   abbrev then : Touched
   then = record m.before { now = y; left = m.before.left || has_any (were (d.layout o) m.test) }
@@ -138,7 +138,7 @@ module _ (w : Width) (rows : Rows) (c : List ℕ) (layouts : List ℕ → Option
 
 -- no object is put back, and the operation leaves the draft of its own as it is
 pub record Stays (op : Op) (d : CollDraft) (old new : Planning) : Type 0 where
-  pub made : draft_after op d.taken (d.layout (object_of op)) ≡ d.layout (object_of op)
+  pub made : draft_after op d ≡ d.layout (object_of op)
   pub objects : new.objects ≡ old.objects
   pub left : new.left.items ≡ old.left.items
 
@@ -160,7 +160,7 @@ there_stays op on there = refl
 -- The state is that of the draft after the operation, where its objects are, its values and its units are counted so.
 pub object_state : (rows : Rows) (c : List ℕ) (layouts : List ℕ → Option Layout) (op : Op) (d : CollDraft) (old new : Planning) → IsOnObject op
     → IsName (object_of op) → IsStateOf rows c layouts d old → AreStanding rows c layouts (with_op op d) new → new.there ≡ old.there
-    → ChangesValues op rows c (object_of op) old.values new.values → new.taken ≡ old.taken + units_on op (d.layout (object_of op))
+    → ChangesValues op rows c (object_of op) old.values new.values → new.taken ≡ old.taken + units_on op d
     → IsStateOf rows c layouts (with_op op d) new
 object_state rows c layouts op d old new on named was stand there values taken = record {
   there = there ∙ was.there ∙ sym (there_stays op on d.there);
@@ -169,13 +169,13 @@ object_state rows c layouts op d old new on named was stand there values taken =
   of_values = values.still was.of_values;
   values = λ u k name is. elim (equal_or_not u o) [
     | inl e ↦
-        ap (λ v. seen rows new.values (value_key c v k)) e ∙ values.own k is ∙ ap (value_after op k) (was.values o k named is)
-        ∙ sym (ap (λ v. (with_op op d).value v k) e ∙ ap (λ f. f k) (at_here o (λ k. value_after op k (d.value o k)) d.value))
+        ap (λ v. value_seen rows new.values (value_key c v k)) e ∙ values.own k is ∙ ap (value_after op k) (was.values o k named is)
+        ∙ sym (ap (λ v. (with_op op d).value v k) e ∙ ap (λ f. f k) (at_here o (values_on op d) d.value))
     | inr apart ↦
         values.apart u k name is apart ∙ was.values u k name is
-        ∙ sym (ap (λ f. f k) (at_other o (λ k. value_after op k (d.value o k)) d.value u apart))
+        ∙ sym (ap (λ f. f k) (at_other o (values_on op d) d.value u apart))
   ];
-  taken = taken ∙ ap (λ n. n + units_on op (d.layout o)) was.taken;
+  taken = taken ∙ ap (λ n. n + units_on op d) was.taken;
   left = stand.left;
 }
   where
@@ -186,7 +186,7 @@ object_state rows c layouts op d old new on named was stand there values taken =
 
 -- an operation that changes nothing but whether the collection is there
 coll_by : (rows : Rows) (c : List ℕ) (layouts : List ℕ → Option Layout) (op : Op) (d : CollDraft) (old : Planning) (there : Bool)
-    → ((n : ℕ) (x : Option Draft) → draft_after op n x ≡ x) → ((x : Option Draft) → units_on op x ≡ 0)
+    → draft_after op d ≡ object_before op d → units_on op d ≡ 0
     → ((k : ValueKey) (v : Option (List ℕ)) → value_after op k v ≡ v) → there ≡ there_after op d.there → IsStateOf rows c layouts d old
     → IsStateOf rows c layouts (with_op op d) (record old { there = there })
 coll_by rows c layouts op d old there made none kept is was = record {
@@ -195,8 +195,8 @@ coll_by rows c layouts op d old there made none kept is was = record {
   untouched = stand.untouched;
   of_values = was.of_values;
   values = λ u k name named. was.values u k name named
-      ∙ sym (ap (λ f. f u k) (at_same o (λ k. value_after op k (d.value o k)) d.value (fun_ext (λ k. kept k (d.value o k)))));
-  taken = was.taken ∙ omega (arith, none (d.layout o));
+      ∙ sym (ap (λ f. f u k) (at_same o (values_on op d) d.value (fun_ext (λ k. kept k (d.value o k)))));
+  taken = was.taken ∙ omega (arith, none);
   left = stand.left;
 }
   where
@@ -207,13 +207,13 @@ coll_by rows c layouts op d old there made none kept is was = record {
     new = record old { there = there }
 
     stand : AreStanding rows c layouts (with_op op d) new
-    stand = stayed rows c layouts op d old new (record { made = made d.taken (d.layout o); objects = refl; left = refl })
+    stand = stayed rows c layouts op d old new (record { made = made; objects = refl; left = refl })
         (standing_of rows c layouts d old was)
 
 pub coll_made : (rows : Rows) (c : List ℕ) (layouts : List ℕ → Option Layout) (d : CollDraft) (old : Planning) → IsStateOf rows c layouts d old
     → IsStateOf rows c layouts (with_op MkColl d) (record old { there = true })
-coll_made rows c layouts d old was = coll_by rows c layouts MkColl d old true (λ n x. refl) (λ x. refl) (λ k v. refl) refl was
+coll_made rows c layouts d old was = coll_by rows c layouts MkColl d old true refl refl (λ k v. refl) refl was
 
 pub coll_gone : (rows : Rows) (c : List ℕ) (layouts : List ℕ → Option Layout) (d : CollDraft) (old : Planning) → IsStateOf rows c layouts d old
     → IsStateOf rows c layouts (with_op RmColl d) (record old { there = false })
-coll_gone rows c layouts d old was = coll_by rows c layouts RmColl d old false (λ n x. refl) (λ x. refl) (λ k v. refl) refl was
+coll_gone rows c layouts d old was = coll_by rows c layouts RmColl d old false refl refl (λ k v. refl) refl was

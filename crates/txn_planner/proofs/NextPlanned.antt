@@ -15,17 +15,17 @@ use Rattle.meta_rows.specs.Prelude.{Rows}
 use Rattle.unit_fields.specs.Prelude.{IsName}
 use Rattle.unit_fields.specs.declared.width.Width.{Width}
 use Rattle.plan_drafts.specs.Prelude.{Layout, CollDraft, with_op, with_ops, places_of, places_on, held_by, none_held, object_of, units_on, IsOnObject, HasNames, IsTakenOn, IsBare, IsTaken, AreTaken, IsRefused, exists, absent, occupied, beyond, lost, AreRefused}
-use Rattle.onode_state.specs.Objects.{AreRowsOfWidth}
+use Rattle.object_rows.specs.Stores.{AreRowsOfWidth}
 use Rattle.page_edits.specs.Writes.{op_at, after_writes, CanBeMade}
 use Rattle.page_edits.proofs.DraftedPages.{no_value}
 use Rattle.page_edits.proofs.UnitContents.{more_made, can_more, can_both}
-use Rattle.draft_rows.proofs.EditFacts.{the_count_laws}
-use Rattle.draft_rows.proofs.Reached.{IsReached}
+use Rattle.plan_proofs.proofs.EditFacts.{the_count_laws}
+use Rattle.plan_proofs.proofs.Reached.{IsReached}
 use Rattle.txn_planner.specs.declared.fails.PlanFail.{PlanFail}
 use Rattle.txn_planner.specs.declared.fails.PlanFail.TheVariants as fail
 use Rattle.txn_planner.specs.declared.planning.Planning.{Planning}
 use Rattle.txn_planner.specs.Planning.{first_draft, IsStateOf, IsGround, IsPlannedTo, PlannedTo}
-use Rattle.txn_planner.specs.Drafts.{Refuses}
+use Rattle.txn_planner.specs.Drafts.{IsPlanRefused}
 use Rattle.txn_planner.specs.Steps.{OfState, IsNotMade, IsNotDropped, IsFit, IsUnfit, MakesObject}
 use Rattle.txn_planner.proofs.Added.{Adds, IsIdle, idle_by, nothing_added}
 use Rattle.txn_planner.proofs.Carried.{Carries, carried}
@@ -72,8 +72,8 @@ module _ (w : Width) (change : Change) (rows : Rows) (good : AreRowsOfWidth w ro
   pub reached_now : IsReached layouts d
   reached_now = reached_by w rows good change layouts ground front was.taken
 
-  few_units : units_on op (d.layout (object_of op)) ≤ 258
-  few_units = omega (arith, the_count_laws.few op (d.layout (object_of op)), the_count_laws.small op (payload_within change ground.small n lt))
+  few_units : units_on op d ≤ 258
+  few_units = omega (arith, the_count_laws.few op d, the_count_laws.small op (payload_within change ground.small n lt))
 
   -- the operation is taken, and the state follows
   pub one_planned : IsTaken d op → IsStateOf rows change.coll layouts (with_op op d) new → Adds change.ops op d old new
@@ -83,7 +83,7 @@ module _ (w : Width) (change : Change) (rows : Rows) (good : AreRowsOfWidth w ro
     state = subst (λ ops. IsStateOf rows change.coll layouts (with_ops ops first) new) (sym more)
         (subst (λ z. IsStateOf rows change.coll layouts z new) (sym (draft_next op front first)) state);
     few = omega (arith, was.few, adds.taken, few_units);
-    places = adds.places ∙ ap (λ l. l ++ places_on op (d.layout (object_of op))) was.places ∙ sym (places_next op front first)
+    places = adds.places ∙ ap (λ l. l ++ places_on op d) was.places ∙ sym (places_next op front first)
         ∙ ap (λ ops. places_of ops first) (sym more);
     held = λ read whole.
         ap (λ ws. after_writes change.ops read ws none_held) adds.are
@@ -141,7 +141,7 @@ module _ (w : Width) (change : Change) (rows : Rows) (good : AreRowsOfWidth w ro
   Next = PlannedTo w change rows n old → PlannedTo w change rows (n + 1) new
 
   abbrev Fails : PlanFail → Type 0
-  Fails why = PlannedTo w change rows n old → Refuses w change rows why
+  Fails why = PlannedTo w change rows n old → IsPlanRefused w change rows why
 
   pub made_next : the_op ≡ MkColl → old.there ≡ false → new ≡ record old { there = true } → Next
   made_next is none same planned layouts ground =

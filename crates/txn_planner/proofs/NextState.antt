@@ -13,12 +13,12 @@ use Rattle.unit_fields.specs.declared.width.Width.{Width}
 use Rattle.row_format.specs.Prelude.{Place, own}
 use Rattle.store_image.proofs.Prelude.{equal_or_not}
 use Rattle.plan_drafts.specs.declared.draft.Draft.{Draft}
-use Rattle.plan_drafts.specs.Prelude.{own_units, Layout, or_empty, or_new, CollDraft, Leaves}
+use Rattle.plan_drafts.specs.Prelude.{units_released, Layout, or_empty, or_new, CollDraft, Leaves}
 use Rattle.blob_map.specs.Prelude.{PageMap}
 use Rattle.number_map.proofs.Laws.{same}
 use Rattle.unit_allocator.proofs.Lists.{Contains-head, Contains-tail, Contains-cases}
 use Rattle.txn_planner.proofs.Between.{In, at_in, in_at, found_in, in_found, unit_stands, stands_unit}
-use Rattle.draft_rows.proofs.Lists.{Contains-left, Contains-right}
+use Rattle.plan_proofs.proofs.Lists.{Contains-left, Contains-right}
 use Rattle.txn_planner.specs.declared.touched.Touched.{Touched}
 use Rattle.txn_planner.specs.Steps.{has_any}
 use Rattle.txn_planner.specs.Touching.{HasLeft, IsTouched}
@@ -134,7 +134,7 @@ module _ (w : Width) (layouts : List ℕ → Option Layout) (o : List ℕ) (name
   x = d.layout o
 
   abbrev units : List ℕ
-  units = flat_map (λ p. own_units p.1) (were x test)
+  units = flat_map (λ p. units_released p.1) (were x test)
 
   kept_or_not : (m : PageMap) (page : ℕ) → ((place : Place) × (finite.get m page ≡ Some place)) ⊎ (finite.get m page ≡ None)
   kept_or_not m page = by (finite.get m page)

@@ -8,7 +8,7 @@ use Rattle.byte_maps.specs.ByteMap.{ByteMap, byte_order}
 use Rattle.byte_maps.proofs.Prelude.{after_remove, both_first, both_second, find_below}
 use Rattle.object_model.specs.Prelude.{is_same}
 use Rattle.unit_fields.specs.Prelude.{IsName}
-use Rattle.draft_rows.proofs.Names.{same_is, itself}
+use Rattle.plan_proofs.proofs.Names.{same_is, itself}
 use Rattle.page_edits.proofs.Lists.{In, in_at}
 use Rattle.txn_planner.specs.declared.touched.Touched.{Touched}
 use Rattle.txn_planner.specs.Laying.{AllNamed}

@@ -10,7 +10,7 @@ use Rattle.unit_fields.specs.Prelude.{IsName}
 use Rattle.unit_fields.specs.declared.width.Width.{Width}
 use Rattle.blob_map.specs.Prelude.{PageMap}
 use Rattle.plan_drafts.specs.declared.draft.Draft.{Draft}
-use Rattle.plan_drafts.specs.Prelude.{edit_of, drafted, own_units, Layout, HasLayout, object_of, or_new, edit_on, CollDraft}
+use Rattle.plan_drafts.specs.Prelude.{edit_of, drafted, units_released, Layout, HasLayout, object_of, or_new, edit_on, CollDraft}
 use Rattle.txn_planner.specs.declared.planning.Planning.{Planning}
 use Rattle.txn_planner.specs.declared.touched.Touched.{Touched}
 use Rattle.txn_planner.specs.Planning.{IsStateOf}
@@ -89,7 +89,7 @@ module _ (w : Width) (rows : Rows) (c o : List ℕ) (name : IsName o) (old : Pla
       → then ≡ record t { now = None; left = t.left || has_any (entries kept) } → put ≡ record between { objects = finite.insert between.objects o then }
       → new.there ≡ put.there → new.objects ≡ put.objects → new.values ≡ put.values → new.writes.items ≡ put.writes.items
       → new.places.items ≡ put.places.items → new.taken ≡ put.taken
-      → new.left.items ≡ put.left.items ++ flat_map (λ p. own_units p.1) (entries kept) → DropsObject w rows c o old new
+      → new.left.items ≡ put.left.items ++ flat_map (λ p. units_released p.1) (entries kept) → DropsObject w rows c o old new
   dropped_back between put new then kept same kept_is then_is is there objects values writes places taken left = record {
     before = t;
     stands = stands_so;
@@ -100,8 +100,8 @@ module _ (w : Width) (rows : Rows) (c o : List ℕ) (name : IsName o) (old : Pla
     };
     writes = writes ∙ ap (λ (p : Planning). p.writes.items) put_is;
     places = places ∙ ap (λ (p : Planning). p.places.items) put_is;
-    left = left ∙ ap (λ us. us ++ flat_map (λ p. own_units p.1) (entries kept)) (ap (λ (p : Planning). p.left.items) put_is)
-        ∙ ap (λ m. old.left.items ++ flat_map (λ p. own_units p.1) (entries m)) kept_is;
+    left = left ∙ ap (λ us. us ++ flat_map (λ p. units_released p.1) (entries kept)) (ap (λ (p : Planning). p.left.items) put_is)
+        ∙ ap (λ m. old.left.items ++ flat_map (λ p. units_released p.1) (entries m)) kept_is;
     taken = taken ∙ ap (λ (p : Planning). p.taken) put_is;
   }
     where

@@ -17,7 +17,7 @@ use Rattle.row_format.specs.Prelude.{onode_key}
 use Rattle.store_image.specs.Prelude.{HasKey}
 use Rattle.read_facts.specs.Prelude.{IsObject, IsBehind, IsNextOf, IsPast}
 use Rattle.read_facts.proofs.Walks.{got_each}
-use Rattle.object_reader.proofs.NamesOrder.{turned}
+use Rattle.object_rows.proofs.NamesOrder.{turned}
 use Rattle.plan_drafts.specs.Prelude.{Layout, HasLayout, draft_of, CollDraft, HasSome, IsBare}
 use Rattle.txn_planner.specs.declared.planning.Planning.{Planning}
 use Rattle.txn_planner.specs.declared.touched.Touched.{Touched}

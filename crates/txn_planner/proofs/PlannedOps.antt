@@ -9,12 +9,12 @@ use Rattle.meta_rows.specs.Prelude.{Rows}
 use Rattle.unit_fields.specs.Prelude.{IsName, IsCollName}
 use Rattle.unit_fields.specs.declared.width.Width.{Width}
 use Rattle.plan_drafts.specs.Prelude.{Layout, none_held, IsKnownOp, IsKnown, IsOnObject, HasNames, object_of}
-use Rattle.onode_state.specs.Objects.{AreRowsOfWidth}
+use Rattle.object_rows.specs.Stores.{AreRowsOfWidth}
 use Rattle.page_edits.specs.Writes.{op_at, after_writes, CanBeMade}
 use Rattle.txn_planner.specs.declared.fails.PlanFail.{PlanFail}
 use Rattle.txn_planner.specs.declared.planning.Planning.{Planning}
 use Rattle.txn_planner.specs.Planning.{IsStateOf, first_draft, PlannedTo}
-use Rattle.txn_planner.specs.Drafts.{Refuses}
+use Rattle.txn_planner.specs.Drafts.{IsPlanRefused}
 use Rattle.txn_planner.specs.Steps.{IsFit, IsUnfit, ChangesObject, MakesObject}
 use Rattle.txn_planner.proofs.Begun.{ground_there}
 use Rattle.txn_planner.proofs.NextPlanned.{object_next, object_fails}
@@ -90,9 +90,9 @@ module _ (w : Width) (change : Change) (rows : Rows) (good : AreRowsOfWidth w ro
   object_step_in coll same named names fit makes =
       object_step named names (subst (λ c. IsFit rows c op old) same fit) (subst (λ c. MakesObject w rows c op n old new) same makes)
 
-  pub object_fail : (why : PlanFail) → IsUnfit rows change.coll op old why → PlannedTo w change rows n old → Refuses w change rows why
+  pub object_fail : (why : PlanFail) → IsUnfit rows change.coll op old why → PlannedTo w change rows n old → IsPlanRefused w change rows why
   object_fail = subst (λ p. IsOnObject p → (why : PlanFail) → IsUnfit rows change.coll p old why → PlannedTo w change rows n old
-      → Refuses w change rows why) is (object_fails w change rows good n lt old new) on
+      → IsPlanRefused w change rows why) is (object_fails w change rows good n lt old new) on
 
 -- the objects have some layouts, and so few units are taken
 pub few_by : (w : Width) (rows : Rows) → AreRowsOfWidth w rows → (change : Change) → IsCollName change.coll → IsKnown change.ops

@@ -20,7 +20,7 @@ use Rattle.plan_drafts.specs.declared.draft.Draft.{Draft}
 use Rattle.page_edits.proofs.Entries.{entry_found, entry_in}
 use Rattle.page_edits.proofs.Lists.{In}
 use Rattle.txn_planner.specs.declared.touched.Touched.{Touched}
-use Rattle.txn_planner.specs.Standing.{Adds, IsPut, IsPutOf, IsPutIn}
+use Rattle.txn_planner.specs.Standing.{GetsNumbers, IsPutBy, IsPutOf, IsPutIn}
 
 -- ---- sets
 
@@ -30,23 +30,23 @@ AnyOf P [] n = ⊥
 AnyOf P (x ∷ xs) n = P x n ⊎ AnyOf P xs n
 
 -- a set with one number more
-pub adds_one : (s : Units) (k : ℕ) → Adds (λ n. k ≡ n) s (set.insert s k)
+pub adds_one : (s : Units) (k : ℕ) → GetsNumbers (λ n. k ≡ n) s (set.insert s k)
 adds_one s k n = (
   λ has. elim ((has_insert s k n).0 has) [ inl one ↦ inr (sym one) | inr was ↦ inl was ],
   λ either. (has_insert s k n).1 (elim either [ inl was ↦ inr was | inr one ↦ inl (sym one) ]),
 )
 
-pub adds_as : (P Q : ℕ → Type 0) (s new : Units) → ((n : ℕ) → P n ↔ Q n) → Adds P s new → Adds Q s new
+pub adds_as : (P Q : ℕ → Type 0) (s new : Units) → ((n : ℕ) → P n ↔ Q n) → GetsNumbers P s new → GetsNumbers Q s new
 adds_as P Q s new same adds n = (
   λ has. elim ((adds n).0 has) [ inl was ↦ inl was | inr p ↦ inr ((same n).0 p) ],
   λ either. (adds n).1 (elim either [ inl was ↦ inl was | inr q ↦ inr ((same n).1 q) ]),
 )
 
-pub adds_nothing : (P : ℕ → Type 0) (s : Units) → ((n : ℕ) → P n → ⊥) → Adds P s s
+pub adds_nothing : (P : ℕ → Type 0) (s : Units) → ((n : ℕ) → P n → ⊥) → GetsNumbers P s s
 adds_nothing P s none n = (λ has. inl has, λ either. elim either [ inl was ↦ was | inr p ↦ absurd (none n p) ])
 
 module _ {X : Type 0} (P : X → ℕ → Type 0) where
-  pub adds_first : (s : Units) → Adds (AnyOf P []) s s
+  pub adds_first : (s : Units) → GetsNumbers (AnyOf P []) s s
   adds_first s = adds_nothing (AnyOf P []) s (λ n none. none)
 
   one_behind : (xs : List X) (y : X) (n : ℕ) → AnyOf P (xs ++ y ∷ []) n ↔ (AnyOf P xs n ⊎ P y n)
@@ -63,7 +63,7 @@ module _ {X : Type 0} (P : X → ℕ → Type 0) where
         ],
       )
 
-  adds_behind : (xs : List X) (y : X) (old s new : Units) → Adds (AnyOf P xs) old s → Adds (P y) s new → Adds (AnyOf P (xs ++ y ∷ [])) old new
+  adds_behind : (xs : List X) (y : X) (old s new : Units) → GetsNumbers (AnyOf P xs) old s → GetsNumbers (P y) s new → GetsNumbers (AnyOf P (xs ++ y ∷ [])) old new
   adds_behind xs y old s new before one n =
       let more = one_behind xs y n in (
         λ has. elim ((one n).0 has) [
@@ -76,13 +76,13 @@ module _ {X : Type 0} (P : X → ℕ → Type 0) where
         ]),
       )
 
-  pub adds_more : (xs : List X) (i : ℕ) (d : X) (old s new : Units) → i < length xs → Adds (AnyOf P (take i xs)) old s → Adds (P (get_or xs i d)) s new
-      → Adds (AnyOf P (take (i + 1) xs)) old new
+  pub adds_more : (xs : List X) (i : ℕ) (d : X) (old s new : Units) → i < length xs → GetsNumbers (AnyOf P (take i xs)) old s → GetsNumbers (P (get_or xs i d)) s new
+      → GetsNumbers (AnyOf P (take (i + 1) xs)) old new
   adds_more xs i d old s new lt before one =
-      subst (λ l. Adds (AnyOf P l) old new) (sym (take_more xs i d lt)) (adds_behind (take i xs) (get_or xs i d) old s new before one)
+      subst (λ l. GetsNumbers (AnyOf P l) old new) (sym (take_more xs i d lt)) (adds_behind (take i xs) (get_or xs i d) old s new before one)
 
-  pub adds_whole : (xs : List X) (i : ℕ) (old new : Units) → length xs ≤ i → Adds (AnyOf P (take i xs)) old new → Adds (AnyOf P xs) old new
-  adds_whole xs i old new end adds = subst (λ l. Adds (AnyOf P l) old new) (take_all i xs end) adds
+  pub adds_whole : (xs : List X) (i : ℕ) (old new : Units) → length xs ≤ i → GetsNumbers (AnyOf P (take i xs)) old new → GetsNumbers (AnyOf P xs) old new
+  adds_whole xs i old new end adds = subst (λ l. GetsNumbers (AnyOf P l) old new) (take_all i xs end) adds
 
   pub any_in : (xs : List X) (n : ℕ) → AnyOf P xs n → (x : X) × In xs x × P x n
   any_in [] n any = absurd any
@@ -111,20 +111,20 @@ listed us s n are =
 abbrev pub IsTaking : ℕ × ℕ → ℕ → Type 0
 IsTaking e n = e.1 ≡ n
 
-pub puts_are : (puts : NumberMap ℕ) (n : ℕ) → AnyOf IsTaking (entries puts) n ↔ IsPut puts n
+pub puts_are : (puts : NumberMap ℕ) (n : ℕ) → AnyOf IsTaking (entries puts) n ↔ IsPutBy puts n
 puts_are puts n = (
   λ any. let e = any_in IsTaking (entries puts) n any in (e.0.0, entry_found puts e.0.0 e.0.1 e.1 ∙ ap Some e.2),
   λ put. in_any IsTaking (entries puts) (put.0, n) n (entry_in puts put.0 n put.1) refl,
 )
 
 -- those of an object are those of its draft
-pub puts_of : (t : Touched) (d : Draft) → t.now ≡ Some d → (n : ℕ) → IsPut d.puts n ↔ IsPutOf t n
+pub puts_of : (t : Touched) (d : Draft) → t.now ≡ Some d → (n : ℕ) → IsPutBy d.puts n ↔ IsPutOf t n
 puts_of t d is n = (
   λ put. record { draft = d; there = is; put = put },
   λ of.
       let both : Some of.draft ≡ Some d = sym of.there ∙ is in
       let same : of.draft ≡ d = cc in
-      subst (λ (x : Draft). IsPut x.puts n) same of.put,
+      subst (λ (x : Draft). IsPutBy x.puts n) same of.put,
 )
 
 -- ---- entries of maps of byte strings
@@ -191,14 +191,14 @@ none_has : (none : Units) (n : ℕ) → none ≡ set.empty → Has none n → �
 none_has none n is has = true≢false (sym has ∙ ap (λ (s : Units). set.contains s n) is ∙ set.contains-empty nat_cmp n)
 
 -- a set that began without any has what it got
-pub all_that_it_got : (P : ℕ → Type 0) (none s : Units) → none ≡ set.empty → Adds P none s → (n : ℕ) → Has s n ↔ P n
+pub all_that_it_got : (P : ℕ → Type 0) (none s : Units) → none ≡ set.empty → GetsNumbers P none s → (n : ℕ) → Has s n ↔ P n
 all_that_it_got P none s is adds n = (
   λ has. elim ((adds n).0 has) [ inl was ↦ absurd (none_has none n is was) | inr p ↦ p ],
   λ p. (adds n).1 (inr p),
 )
 
 -- and so does the list that makes it up
-pub listed_as : (P : ℕ → Type 0) (us : List ℕ) (none s : Units) → none ≡ set.empty → Adds P none s → set.from_list us ≡ s → (n : ℕ) → Contains us n ↔ P n
+pub listed_as : (P : ℕ → Type 0) (us : List ℕ) (none s : Units) → none ≡ set.empty → GetsNumbers P none s → set.from_list us ≡ s → (n : ℕ) → Contains us n ↔ P n
 listed_as P us none s is adds are n = (
   λ k. (all_that_it_got P none s is adds n).0 ((listed us s n are).0 k),
   λ p. (listed us s n are).1 ((all_that_it_got P none s is adds n).1 p),

@@ -1,6 +1,7 @@
--- Whether an object's layout is what it was.
+-- Whether an object's pages stand where they stood.
 use Rattle.std.proofs.Common.{◌≡◌, inl, inr, ℕ, Bool, true, false, cond, not, List, [], ◌∷◌, length, map, Contains, Option, Some, None, refl, sym, ap, ◌∙◌, arith}
-use Rattle.std.specs.Prelude.{◌==◌, ◌||◌, slice_index}
+use Rattle.std.specs.Prelude.{◌==◌, ◌||◌, ◌&&◌, ◌+◌, ◌-◌, ◌<◌, nat_le, nat_lt, slice_index}
+use Rattle.std.specs.List.{AllByRecursion}
 use Rattle.std.specs.Option.{option_map, option_map_or}
 use Rattle.std.specs.Ordering.{nat_cmp, is_eq}
 use Rattle.std.specs.FinMap as finite
@@ -10,13 +11,16 @@ use Rattle.std.proofs.lemmas.Bool.Decides.{nat_tests}
 use Rattle.crc32c_csum.specs.Prelude.{crc32c}
 use Rattle.number_map.specs.NumberMap.{NumberMap}
 use Rattle.number_map.proofs.Search.{cmp_equal}
-use Rattle.row_format.specs.Prelude.{Extent, Place, own, BeginsAt}
+use Rattle.row_format.specs.Prelude.{Extent, Place, own, place_in, place_of, page_count, page_end}
 use Rattle.blob_map.specs.Prelude.{PageMap, with_pages, extents_of}
-use Rattle.extent_shards.proofs.Fronts.{begins_at_first}
+use Rattle.blob_map.proofs.Forms.{extents_places}
+use Rattle.extent_shards.specs.Prelude.{first_of}
+use Rattle.extent_shards.proofs.Openings.{HasExtent, HasPages, all_have_pages}
 use Rattle.plan_drafts.specs.declared.draft.Draft.{Draft}
-use Rattle.plan_drafts.specs.Prelude.{Held, Layout, or_empty, size_at, or_new, draft_of, place_put, laid}
-use Rattle.draft_rows.proofs.Laid.{laid_get, laid_put}
-use Rattle.txn_planner.specs.Laying.{differs, TakesBelow}
+use Rattle.plan_drafts.specs.Prelude.{Held, Layout, or_empty, or_new, draft_of, place_put, laid}
+use Rattle.object_rows.proofs.GoodPages.{all_map}
+use Rattle.plan_proofs.proofs.Laid.{laid_get, laid_put}
+use Rattle.txn_planner.specs.Laying.{is_moved, PutsBelow}
 use Rattle.txn_planner.specs.Touching.{HasLeft}
 use Rattle.txn_planner.proofs.Between.{at_index}
 
@@ -61,19 +65,58 @@ some_put m some = by (entries m) refl
     by [] e = absurd (not_tested (finite.len m) 0 some (len-entries m ∙ ap length e))
     by (x ∷ es) e = record { page = x.0; taking = x.1; put = get-entries m x.0 ∙ ap (find nat_cmp x.0) e ∙ found_first x es }
 
--- the page at which a map's extents begin stands somewhere
-pub begins_stands : (m : PageMap) (page : ℕ) → BeginsAt page (extents_of (entries m)) → (place : Place) × (finite.get m page ≡ Some place)
-begins_stands m page begins = let x = by (entries m) begins in (x.0, get-entries m page ∙ x.1)
-  where
-    one : (es : List Extent) (n : ℕ) → BeginsAt page es → BeginsAt n es → n ≡ page
-    one [] n p q = absurd p
-    one (e ∷ es) n p q = sym q ∙ p
+-- ---- the pages where extents begin
 
-    by : (es : List (ℕ × Place)) → BeginsAt page (extents_of es) → (place : Place) × (find nat_cmp page es ≡ Some place)
-    by [] begins = absurd begins
-    by (x ∷ es) begins =
-        let same : x.0 ≡ page = one (extents_of (x ∷ es)) x.0 begins (begins_at_first (x ∷ es) x (omega arith)) in
-        (x.1, ap (λ n. find nat_cmp n (x ∷ es)) (sym same) ∙ found_first x es)
+abbrev either_place : Extent → List Extent → ℕ → Bool → Option Place
+either_place e es page b = cond b (Some (place_in e.body (page - e.first))) (place_of es page)
+
+-- the extents have a page, in some place
+abbrev HasIt : List Extent → Extent → Type 0
+HasIt all e = (place : Place) × (place_of all e.first ≡ Some place)
+
+le_itself : (n : ℕ) → nat_le n n ≡ true
+le_itself n = grind (arith, nat_tests)
+
+lt_more : (n k : ℕ) → 0 < k → nat_lt n (n + k) ≡ true
+lt_more n k some = grind (arith, nat_tests)
+
+both_true : (a b : Bool) → a ≡ true → b ≡ true → (a && b) ≡ true
+both_true true b p q = q
+both_true false b p q = p
+
+begins_here : (e : Extent) (es : List Extent) → HasPages e → HasIt (e ∷ es) e
+begins_here e es some = (
+  place_in e.body (e.first - e.first),
+  ap (either_place e es e.first)
+      (both_true (nat_le e.first e.first) (nat_lt e.first (page_end e)) (le_itself e.first) (lt_more e.first (page_count e.body) some)),
+)
+
+begins_behind : (e f : Extent) (es : List Extent) → HasIt es f → HasIt (e ∷ es) f
+begins_behind e f es has = elim (cases_Bool (nat_le e.first f.first && nat_lt f.first (page_end e))) [
+  | inl here ↦ (place_in e.body (f.first - e.first), ap (either_place e es f.first) here)
+  | inr not ↦ (has.0, ap (either_place e es f.first) not ∙ has.1)
+]
+
+all_begin : (es : List Extent) → AllByRecursion HasPages es → AllByRecursion (HasIt es) es
+all_begin [] pages = tt
+all_begin (e ∷ es) pages = (
+  begins_here e es pages.0,
+  all_map (HasIt es) (HasIt (e ∷ es)) (λ f has. begins_behind e f es has) es (all_begin es pages.1),
+)
+
+-- a page of a map
+abbrev pub Stands : PageMap → Extent → Type 0
+Stands pages e = (place : Place) × (finite.get pages e.first ≡ Some place)
+
+pub firsts_stand : (pages : PageMap) → AllByRecursion (Stands pages) (extents_of (entries pages))
+firsts_stand pages = all_map (HasIt (extents_of (entries pages))) (Stands pages)
+    (λ e has. (has.0, sym (extents_places pages e.first) ∙ has.1)) (extents_of (entries pages))
+    (all_begin (extents_of (entries pages)) (all_have_pages (entries pages)))
+
+pub begins_found : (pages : PageMap) (es : List Extent) → HasExtent es → AllByRecursion (Stands pages) es
+    → (place : Place) × (finite.get pages (first_of es) ≡ Some place)
+begins_found pages [] has all = absurd has
+begins_found pages (e ∷ es) has all = all.0
 
 -- ---- layouts
 
@@ -90,63 +133,49 @@ module _ (units : List ℕ) (held : Held) where
   laid_again None = refl
   laid_again (Some l) = ap Some (sym (laid_as (draft_of l) (finite.len-empty nat_cmp ℕ)))
 
-  -- one that is what it was
-  pub same_layout : (layout : Option Layout) (left : Bool) (now : Option Draft) → (left ≡ false → (or_new now).kept ≡ (or_empty layout).pages)
-      → differs (size_at layout) left now ≡ false → layout ≡ option_map (laid units held) now
-  same_layout None left None kept is = refl
-  same_layout None left (Some x) kept is = absurd cc
-  same_layout (Some l) left None kept is = absurd cc
-  same_layout (Some l) left (Some x) kept is =
-      let sized = or_parts (not (l.size == x.size)) (left || not (finite.len x.puts == 0)) is in
-      let others = or_parts left (not (finite.len x.puts == 0)) sized.1 in
-      let size : l.size ≡ x.size = tested l.size x.size (turned_false (l.size == x.size) sized.0) in
-      let none : finite.len x.puts ≡ 0 = tested (finite.len x.puts) 0 (turned_false (finite.len x.puts == 0) others.1) in
-      let pages : x.kept ≡ l.pages = kept others.0 in
-      let now : l ≡ with_puts x [] = λ i. record { size = size i; pages = sym pages i } in
-      ap Some (now ∙ sym (laid_as x none))
+  abbrev pub pages_laid : Option Draft → PageMap
+  pages_laid now = (or_empty (option_map (laid units held) now)).pages
 
-  -- One that isn't. No page of the object stood on one of the units.
+  -- one whose pages all stand where they stood
+  pub same_pages : (layout : Option Layout) (left : Bool) (now : Option Draft) → (left ≡ false → (or_new now).kept ≡ (or_empty layout).pages)
+      → is_moved left now ≡ false → (or_empty layout).pages ≡ pages_laid now
+  same_pages layout left None kept is = sym (kept is)
+  same_pages layout left (Some x) kept is =
+      let both = or_parts left (not (finite.len x.puts == 0)) is in
+      let none : finite.len x.puts ≡ 0 = tested (finite.len x.puts) 0 (turned_false (finite.len x.puts == 0) both.1) in
+      sym (kept both.0) ∙ sym (ap (λ (z : Layout). z.pages) (laid_as x none))
+
+  -- One of which a page has moved. No page of the object stood on one of the units.
   module _ (layout : Option Layout)
       (new : (page unit csum : ℕ) → finite.get (or_empty layout).pages page ≡ Some (own unit csum) → Contains units unit → ⊥) where
-    put_elsewhere : (l : Layout) (x : Draft) → layout ≡ Some l → l ≡ laid units held x → TakesBelow (length units) (Some x)
+    put_elsewhere : (x : Draft) → (or_empty layout).pages ≡ pages_laid (Some x) → PutsBelow (length units) (Some x)
         → (page taking : ℕ) → finite.get x.puts page ≡ Some taking → ⊥
-    put_elsewhere l x is e below page taking put =
+    put_elsewhere x e below page taking put =
         new page (slice_index units taking) (crc32c (held taking))
-        (ap (λ z. finite.get (or_empty z).pages page) is ∙ ap (λ (z : Layout). finite.get z.pages page) e ∙ laid_put units held x page taking put)
+        (ap (λ (m : PageMap). finite.get m page) e ∙ laid_put units held x page taking put)
         ((at_index units (slice_index units taking)).1 (taking, below x page taking refl put, refl))
 
-    left_elsewhere : (l : Layout) (x : Draft) → layout ≡ Some l → l ≡ laid units held x → TakesBelow (length units) (Some x)
+    left_elsewhere : (x : Draft) → (or_empty layout).pages ≡ pages_laid (Some x) → PutsBelow (length units) (Some x)
         → HasLeft layout (Some x) → ⊥
-    left_elsewhere l x is e below gone = by (finite.get x.puts gone.page) refl
+    left_elsewhere x e below gone = by (finite.get x.puts gone.page) refl
       where
         by : (z : Option ℕ) → finite.get x.puts gone.page ≡ z → ⊥
         by None p =
-            let t : Some gone.place ≡ None = sym gone.stood ∙ ap (λ z. finite.get (or_empty z).pages gone.page) is
-            ∙ ap (λ (z : Layout). finite.get z.pages gone.page) e ∙ laid_get units held x gone.page
+            let t : Some gone.place ≡ None = sym gone.stood ∙ ap (λ (m : PageMap). finite.get m gone.page) e ∙ laid_get units held x gone.page
             ∙ ap (λ z. option_map_or (λ t. Some (place_put units held t)) z (finite.get x.kept gone.page)) p ∙ gone.left in
             absurd cc
-        by (Some taking) p = put_elsewhere l x is e below gone.page taking p
+        by (Some taking) p = put_elsewhere x e below gone.page taking p
 
-    pub other_layout : (left : Bool) (now : Option Draft) → (left ≡ true → HasLeft layout now) → TakesBelow (length units) now
-        → differs (size_at layout) left now ≡ true → layout ≡ option_map (laid units held) now → ⊥
-    other_layout left now gone below is same = by layout now refl gone below is same
-      where
-        by : (z : Option Layout) (now : Option Draft) → layout ≡ z → (left ≡ true → HasLeft layout now) → TakesBelow (length units) now
-            → differs (size_at z) left now ≡ true → z ≡ option_map (laid units held) now → ⊥
-        by None None p gone below is same = absurd cc
-        by None (Some x) p gone below is same = absurd cc
-        by (Some l) None p gone below is same = absurd cc
-        by (Some l) (Some x) p gone below is same =
-            let e : l ≡ laid units held x = cc in
-            elim (cases_Bool (l.size == x.size)) [
-              | inr apart ↦ not_tested l.size x.size apart (ap (λ (z : Layout). z.size) e)
-              | inl sized ↦
-                  let moved : (left || not (finite.len x.puts == 0)) ≡ true = sym (ap (λ b. not b || (left || not (finite.len x.puts == 0))) sized) ∙ is in
-                  elim (cases_Bool left) [
-                    | inl some ↦ left_elsewhere l x p e below (gone some)
-                    | inr none ↦
-                        let some : not (finite.len x.puts == 0) ≡ true = sym (ap (λ b. b || not (finite.len x.puts == 0)) none) ∙ moved in
-                        let put = some_put x.puts (turned_true (finite.len x.puts == 0) some) in
-                        put_elsewhere l x p e below put.page put.taking put.put
-                  ]
-            ]
+    pub other_pages : (left : Bool) (now : Option Draft) → (left ≡ true → HasLeft layout now) → PutsBelow (length units) now
+        → is_moved left now ≡ true → (or_empty layout).pages ≡ pages_laid now → ⊥
+    other_pages left None gone below is e =
+        let was = gone is in
+        let t : Some was.place ≡ None = sym was.stood ∙ ap (λ (m : PageMap). finite.get m was.page) e ∙ finite.get-empty nat_cmp was.page in
+        absurd cc
+    other_pages left (Some x) gone below is e = elim (cases_Bool left) [
+      | inl some ↦ left_elsewhere x e below (gone some)
+      | inr none ↦
+          let some : not (finite.len x.puts == 0) ≡ true = sym (ap (λ b. b || not (finite.len x.puts == 0)) none) ∙ is in
+          let put = some_put x.puts (turned_true (finite.len x.puts == 0) some) in
+          put_elsewhere x e below put.page put.taking put.put
+    ]

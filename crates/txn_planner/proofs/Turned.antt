@@ -9,7 +9,7 @@ use Rattle.meta_rows.specs.declared.row_op.RowOp.{RowOp}
 use Rattle.bitmap_freelist.specs.Bitmap.{Units, Has, AreFlips}
 use Rattle.bitmap_freelist.proofs.Reading.{has_insert}
 use Rattle.plan_drafts.specs.Prelude.{TurnsBits}
-use Rattle.txn_planner.specs.Turns.{AddsUnits}
+use Rattle.txn_planner.specs.Turns.{GetsUnits}
 
 -- the set got the first i of these units, and no others
 abbrev pub AddsFirst : ℕ → List ℕ → Units → Units → Type 0
@@ -31,8 +31,8 @@ adds_next us i x old s below is adds unit =
     )
 
 -- the operations that turn the units of a set which got one list and then another
-pub turns_both : (taken released : List ℕ) (none some all : Units) (flips : List RowOp) → none ≡ set.empty → AddsUnits taken none some
-    → AddsUnits released some all → AreFlips all flips → TurnsBits taken released flips
+pub turns_both : (taken released : List ℕ) (none some all : Units) (flips : List RowOp) → none ≡ set.empty → GetsUnits taken none some
+    → GetsUnits released some all → AreFlips all flips → TurnsBits taken released flips
 turns_both taken released none some all flips is first second are = record {
   units = all;
   are_units = λ unit.

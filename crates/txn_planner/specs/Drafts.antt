@@ -10,17 +10,17 @@ use Rattle.read_facts.specs.Prelude.{IsNotRefused}
 use Rattle.plan_drafts.specs.Prelude.{Layout, IsKnown, AreRefused, AsksFor}
 use Rattle.unit_allocator.specs.Prelude.{Space, free_units}
 use Rattle.store_steps.specs.Prelude.{free_count}
-use Rattle.txn_planner.specs.declared.drafts.Draft.{Draft}
+use Rattle.txn_planner.specs.declared.drafts.TxnDraft.{TxnDraft}
 use Rattle.txn_planner.specs.declared.fails.PlanFail.{PlanFail}
 use Rattle.txn_planner.specs.declared.fails.PlanFail.TheVariants as fail
 use Rattle.txn_planner.specs.Planning.{first_draft, IsGround, PlannedTo}
 
 -- where the pages stand whose old bytes the plan needs
-abbrev pub places_in : Draft → List Place
+abbrev pub places_in : TxnDraft → List Place
 places_in draft = draft.planning.places.items
 
 -- Plain objects don't refuse the transaction, all its operations are planned, and these are the lowest free units, one for each taking.
-pub record IsDraftFor (w : Width) (change : Change) (rows : Rows) (space : Space) (draft : Draft) : Type 0 where
+pub record IsDraftFor (w : Width) (change : Change) (rows : Rows) (space : Space) (draft : TxnDraft) : Type 0 where
   pub coll : IsCollName change.coll
   pub known : IsKnown change.ops
   pub small : is_too_large change ≡ false
@@ -31,8 +31,8 @@ pub record IsDraftFor (w : Width) (change : Change) (rows : Rows) (space : Space
   pub units : draft.units.items ≡ take draft.planning.taken (free_units space)
 
 -- why an operation of the transaction isn't planned: it is the first that is refused, or memory ran out
-abbrev pub Refuses : Width → Change → Rows → PlanFail → Type 0
-Refuses w change rows (fail.Refusal refusal) =
+abbrev pub IsPlanRefused : Width → Change → Rows → PlanFail → Type 0
+IsPlanRefused w change rows (fail.Refusal refusal) =
     (layouts : List ℕ → Option Layout) → IsGround w change rows layouts → AreRefused change.ops (first_draft rows change.coll layouts) refusal
-Refuses w change rows (fail.NoSpace need free) = ⊥
-Refuses w change rows fail.Memory = Unit {0}
+IsPlanRefused w change rows (fail.NoSpace need free) = ⊥
+IsPlanRefused w change rows fail.Memory = Unit {0}

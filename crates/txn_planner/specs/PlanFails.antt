@@ -18,9 +18,9 @@ use Rattle.txn_planner.specs.declared.fails.PlanFail.{PlanFail}
 use Rattle.txn_planner.specs.declared.fails.PlanFail.TheVariants as fail
 
 -- why there is no plan, where the units aren't found
-abbrev pub fail_of : TakeFail → PlanFail
-fail_of (take.NoSpace need free) = fail.NoSpace need free
-fail_of take.Memory = fail.Memory
+abbrev pub plan_fail_of : TakeFail → PlanFail
+plan_fail_of (take.NoSpace need free) = fail.NoSpace need free
+plan_fail_of take.Memory = fail.Memory
 
 -- Plain objects of the rows' shape don't refuse the transaction. This is its plan, over the old bytes of these places, where no row is bad and the
 -- free units are owned by nobody: then its operations are the difference of the rows.

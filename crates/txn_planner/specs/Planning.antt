@@ -11,7 +11,7 @@ use Rattle.row_format.specs.Prelude.{coll_key, onode_key}
 use Rattle.store_image.specs.Prelude.{HasKey}
 use Rattle.plan_rows.specs.declared.plan.ReadUnit.{ReadUnit}
 use Rattle.plan_drafts.specs.Prelude.{Layout, HasLayout, ValueKey, value_key, IsValueKey, IsKnown, CollDraft, with_ops, places_of, held_by, none_held, AreTaken, draft_of, Leaves}
-use Rattle.row_changes.specs.Prelude.{seen}
+use Rattle.row_changes.specs.Prelude.{value_seen}
 use Rattle.value_changes.specs.Changed.{AreOfValues}
 use Rattle.page_edits.specs.Writes.{after_writes, CanBeMade}
 use Rattle.txn_planner.specs.declared.planning.Planning.{Planning}
@@ -34,7 +34,7 @@ pub record IsStateOf (rows : Rows) (c : List ℕ) (layouts : List ℕ → Option
   pub touched : (o : List ℕ) (t : Touched) → finite.get p.objects o ≡ Some t → IsTouched rows c o (layouts o) (d.layout o) t
   pub untouched : (o : List ℕ) → IsName o → finite.get p.objects o ≡ None → d.layout o ≡ option_map draft_of (layouts o)
   pub of_values : AreOfValues c p.values
-  pub values : (o : List ℕ) (k : ValueKey) → IsName o → IsValueKey k → seen rows p.values (value_key c o k) ≡ d.value o k
+  pub values : (o : List ℕ) (k : ValueKey) → IsName o → IsValueKey k → value_seen rows p.values (value_key c o k) ≡ d.value o k
   pub taken : p.taken ≡ d.taken
   pub left : (unit : ℕ) → Contains p.left.items unit ↔ Leaves layouts d unit
 

@@ -8,18 +8,18 @@ use Rattle.plan_drafts.specs.declared.draft.Draft.{Draft}
 use Rattle.txn_planner.specs.declared.touched.Touched.{Touched}
 
 -- the set got the numbers that these are, and no others
-abbrev pub Adds : (ℕ → Type 0) → Units → Units → Type 0
-Adds IsOne old new = (n : ℕ) → Has new n ↔ (Has old n ⊎ IsOne n)
+abbrev pub GetsNumbers : (ℕ → Type 0) → Units → Units → Type 0
+GetsNumbers IsOne old new = (n : ℕ) → Has new n ↔ (Has old n ⊎ IsOne n)
 
 -- a page was put by the taking
-abbrev pub IsPut : NumberMap ℕ → ℕ → Type 0
-IsPut puts taking = (page : ℕ) × (finite.get puts page ≡ Some taking)
+abbrev pub IsPutBy : NumberMap ℕ → ℕ → Type 0
+IsPutBy puts taking = (page : ℕ) × (finite.get puts page ≡ Some taking)
 
 -- a page of the object was
 pub record IsPutOf (t : Touched) (taking : ℕ) : Type 0 where
   pub draft : Draft
   pub there : t.now ≡ Some draft
-  pub put : IsPut draft.puts taking
+  pub put : IsPutBy draft.puts taking
 
 -- a page of one of the objects was
 pub record IsPutIn (objects : ByteMap Touched) (taking : ℕ) : Type 0 where

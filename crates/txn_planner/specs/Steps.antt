@@ -12,10 +12,10 @@ use Rattle.unit_fields.specs.Prelude.{IsName}
 use Rattle.unit_fields.specs.declared.width.Width.{Width}
 use Rattle.plan_drafts.specs.declared.draft.Draft.{Draft}
 use Rattle.plan_rows.specs.declared.plan.ReadUnit.{ReadUnit}
-use Rattle.plan_drafts.specs.Prelude.{edit_of, is_touched, pages_taking, places_read, drafted, own_units, Held, writes_of, Layout, HasLayout, object_of, or_new, edit_on, is_beyond, needs_object, CollDraft, HasSome}
+use Rattle.plan_drafts.specs.Prelude.{edit_of, is_touched, pages_taking, places_read, drafted, units_released, Held, writes_of, Layout, HasLayout, object_of, or_new, edit_on, is_beyond, needs_object, CollDraft, HasSome}
 use Rattle.value_changes.specs.Changed.{ChangesValues}
-use Rattle.page_edits.specs.Takings.{IsNumbered, AreWhole}
-use Rattle.page_edits.specs.Writes.{op_at, made_by, CanBeMade}
+use Rattle.page_edits.specs.Takings.{IsNumbered, PutsWholePages}
+use Rattle.page_edits.specs.Writes.{op_at, made_by, IsWriteBy, CanBeMade}
 use Rattle.page_edits.specs.declared.edits.Edited.{Edited}
 use Rattle.txn_planner.specs.declared.fails.PlanFail.{PlanFail}
 use Rattle.txn_planner.specs.declared.fails.PlanFail.TheVariants as fail
@@ -87,16 +87,16 @@ pub record TellsEdit (op : Op) (at n : ℕ) (d : Draft) (e : Edited) : Type 0 wh
   pub taken : e.taken ≡ n + length (pages_taking (edit_of op d.size) d)
   pub places : e.places ≡ places_read (edit_of op d.size) d
   pub left : e.left ≡ where_key nat_cmp (is_touched (edit_of op d.size)) (finite.entries d.kept)
-  pub writes : (read : List ReadUnit) (held : Held) → AreWhole held d
+  pub writes : (read : List ReadUnit) (held : Held) → PutsWholePages held d
       → map (made_by op read held) e.writes ≡ writes_of (edit_of op d.size) read held n d
-  pub of : AllByRecursion (λ w. w.op ≡ at) e.writes
+  pub of : AllByRecursion (IsWriteBy at) e.writes
   pub can : (ops : List Op) → at < length ops → op_at ops at ≡ op → IsNumbered n d → AllByRecursion (CanBeMade ops e.taken) e.writes
 
 -- all that it tells is added to the state
 pub record AddsEdit (e : Edited) (old new : Planning) : Type 0 where
   pub writes : new.writes.items ≡ old.writes.items ++ e.writes
   pub places : new.places.items ≡ old.places.items ++ e.places
-  pub left : new.left.items ≡ old.left.items ++ flat_map (λ p. own_units p.1) e.left
+  pub left : new.left.items ≡ old.left.items ++ flat_map (λ p. units_released p.1) e.left
   pub taken : new.taken ≡ e.taken
 
 -- whether a list has anything
@@ -144,7 +144,7 @@ pub record DropsObject (w : Width) (rows : Rows) (c o : List ℕ) (old new : Pla
   pub puts : PutsBack o (record before { now = None; left = before.left || has_any (finite.entries (or_new before.now).kept) }) old new
   pub writes : new.writes.items ≡ old.writes.items
   pub places : new.places.items ≡ old.places.items
-  pub left : new.left.items ≡ old.left.items ++ flat_map (λ p. own_units p.1) (finite.entries (or_new before.now).kept)
+  pub left : new.left.items ≡ old.left.items ++ flat_map (λ p. units_released p.1) (finite.entries (or_new before.now).kept)
   pub taken : new.taken ≡ old.taken
 
 -- a truncate is the one edit that leaves a missing object missing

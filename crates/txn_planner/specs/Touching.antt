@@ -6,7 +6,7 @@ use Rattle.meta_rows.specs.Prelude.{Rows}
 use Rattle.row_format.specs.Prelude.{Place}
 use Rattle.plan_drafts.specs.declared.draft.Draft.{Draft}
 use Rattle.plan_drafts.specs.Prelude.{Layout, or_empty, size_at, or_new}
-use Rattle.draft_rows.specs.Prelude.{AreShards}
+use Rattle.object_rows.specs.Shards.{AreShards}
 use Rattle.txn_planner.specs.declared.touched.Touched.{Touched}
 
 -- a page of the object stood somewhere, and doesn't stand there any more

@@ -2,9 +2,9 @@
 ghost use Rattle.std.specs.Prelude.{◌≡◌, false, length, IfOk, IfErr};
 ghost use Rattle.object_model.specs.Prelude.{is_too_large};
 ghost use Rattle.plan_drafts.specs.Prelude.{IsKnown, AreReadAt};
-ghost use Rattle.onode_state.specs.Objects.{AreRowsOfWidth};
+ghost use Rattle.object_rows.specs.Stores.{AreRowsOfWidth};
 ghost use Rattle.txn_planner.specs.Planning.{PlannedTo};
-ghost use Rattle.txn_planner.specs.Drafts.{places_in, IsDraftFor, Refuses};
+ghost use Rattle.txn_planner.specs.Drafts.{places_in, IsDraftFor, IsPlanRefused};
 ghost use Rattle.txn_planner.specs.PlanFails.{IsPlanFor, IsPlanFail};
 
 use crate::fails::PlanFail;
@@ -17,7 +17,7 @@ use blob_map::Place;
 use byte_maps::Items;
 use meta_rows::RowTable;
 use object_model::{Refusal, Transaction};
-use onode_state::coll_name_is_one;
+use object_rows::coll_name_is_one;
 use page_edits::contents;
 use plan_rows::{Plan, ReadUnit};
 use std::alloc::{AllocError, Global};
@@ -26,14 +26,14 @@ use unit_fields::{UnitNo, Width};
 
 /// A transaction that can be planned once old bytes are there.
 #[derive(Drop)]
-pub struct Draft {
+pub struct TxnDraft {
     /// What its operations come to.
     pub planning: Planning,
     /// The lowest free units, one for each that it takes.
     pub units: Vec<UnitNo>,
 }
 
-impl Draft {
+impl TxnDraft {
     /// Where the pages stand whose old bytes the plan needs, by operation and page.
     pub fn places(&self) -> &[Place]
         ensures { result.now ≡ places_in self.now }
@@ -60,7 +60,7 @@ impl Draft {
         ensures ok { IfOk result (IsPlanFor width txn.now rows.now.rows space.now (places_in self)) }
         ensures read { IfOk result (λ plan. plan.read ≡ read) }
     {
-        let Draft { planning, units } = self;
+        let TxnDraft { planning, units } = self;
         let held = contents(
             alloc,
             txn.ops(),
@@ -71,7 +71,7 @@ impl Draft {
         let takings = standing(alloc, &planning.objects)?;
         let fresh = fresh_units(alloc, takings.as_slice(), &units, held.as_slice())?;
         let released = released_units(alloc, &planning.left)?;
-        let changes = changed_rows(alloc, width, txn, planning, &units, held.as_slice())?;
+        let changes = changed_rows(alloc, width, rows, txn, planning, &units, held.as_slice())?;
         let ops = row_ops(alloc, rows, changes, fresh.as_slice(), released.as_slice())?;
         Ok(Plan {
             ops,
@@ -93,7 +93,7 @@ fn plan_ops(
     requires small { is_too_large txn.now ≡ false }
     requires good { AreRowsOfWidth width rows.now.rows }
     ensures ok { IfOk result (PlannedTo width txn.now rows.now.rows (length txn.now.ops)) }
-    ensures fail { IfErr result (Refuses width txn.now rows.now.rows) }
+    ensures fail { IfErr result (IsPlanRefused width txn.now rows.now.rows) }
 {
     let mut planning = Planning::new(alloc, rows, txn.coll())?;
     for at in 0..txn.ops().len() {
@@ -110,7 +110,7 @@ pub fn begin(
     rows: &RowTable,
     space: &Allocator,
     txn: &Transaction,
-) -> Result<Draft, PlanFail>
+) -> Result<TxnDraft, PlanFail>
     requires known { IsKnown txn.now.ops }
     requires good { AreRowsOfWidth width rows.now.rows }
     ensures ok { IfOk result (IsDraftFor width txn.now rows.now.rows space.now) }
@@ -125,7 +125,7 @@ pub fn begin(
         Err(why) => return Err(why),
     };
     match space.lowest_units(alloc, planning.taken) {
-        Ok(units) => Ok(Draft { planning, units }),
+        Ok(units) => Ok(TxnDraft { planning, units }),
         Err(why) => Err(PlanFail::from(why)),
     }
 }

@@ -1,6 +1,6 @@
 //! Why a transaction isn't planned.
 ghost use Rattle.std.specs.Prelude.{◌≡◌};
-ghost use Rattle.txn_planner.specs.PlanFails.{fail_of};
+ghost use Rattle.txn_planner.specs.PlanFails.{plan_fail_of};
 ghost use Rattle.txn_planner.specs.declared.fails.PlanFail.TheVariants.{Memory};
 
 use object_model::Refusal;
@@ -27,7 +27,7 @@ impl From<AllocError> for PlanFail {
 }
 
 impl From<TakeFail> for PlanFail {
-    ghost from_gives = { λ why e. e ≡ fail_of why };
+    ghost from_gives = { λ why e. e ≡ plan_fail_of why };
 
     fn from(why: TakeFail) -> PlanFail {
         match why {

@@ -1,25 +1,27 @@
-//! The rows of the objects whose layouts a transaction has changed, once its units are taken.
+//! The rows of the objects that a transaction has changed, once its units are taken.
 //!
-//! An object that is as it was keeps its rows. Of each other the onode and all shards are written anew, whichever of its pages have changed.
-ghost use Rattle.std.specs.Prelude.{◌≡◌, ℕ, Option, length, IfOk, OnOk};
+//! An onode is written where the object is longer or shorter than it was. Where one of its pages has come, gone or moved, its map is cut
+//! into shards anew, and of these the ones are written whose bytes aren't those of the row that is there.
+ghost use Rattle.std.specs.Prelude.{◌≡◌, ℕ, Option, length, option_copied, IfOk, OnOk};
 ghost use Rattle.std.specs.Option.{option_map};
 ghost use Rattle.std.specs.FinMap as finite;
-ghost use Rattle.meta_rows.specs.Prelude.{Rows};
+ghost use Rattle.std.specs.FinSet as set;
 ghost use Rattle.row_format.specs.Prelude.{coll_key};
 ghost use Rattle.plan_drafts.specs.Prelude.{or_empty, laid};
 ghost use Rattle.page_edits.specs.Writes.{held_in};
 ghost use Rattle.txn_planner.specs.Laying.{
-  TakesBelow,
+  PutsBelow,
   AllTakeBelow,
   AllNamed,
-  laid_now,
-  opening,
+  openings,
   without_shard,
   without_shards,
+  has_value,
+  with_shard,
+  with_shards,
+  with_map,
   is_as_long,
   with_onode,
-  with_shards,
-  with_object,
   with_touched,
   with_objects,
   coll_row,
@@ -30,17 +32,19 @@ use crate::operations::is_any_on_coll;
 use crate::planning::Planning;
 use crate::touched::Touched;
 use blob_map::PageMap;
-use byte_maps::{ByteMap, Bytes};
+use byte_maps::{ByteMap, Bytes, byte_order};
 use bytes::Bytes as SharedBytes;
-use extent_shards::{Shard, split};
+use extent_shards::{SHARD_BYTES, Shard, split};
+use meta_rows::RowTable;
 use object_model::Transaction;
+use object_rows::coll_name_is_one;
 use onode_codec::{Onode, coll_key, onode_key, shard_key};
-use onode_state::coll_name_is_one;
 use page_edits::lay;
 use plan_drafts::Draft;
 use row_changes::RowChanges;
 use std::alloc::{AllocError, Global};
-use unit_fields::{CollName, Name, UnitNo, Width};
+use std::cmp::Ordering;
+use unit_fields::{CollName, Name, UnitNo, UnitSet, Width};
 
 // ---- one object
 
@@ -51,8 +55,8 @@ fn lay_pages(
     units: &[UnitNo],
     contents: &[SharedBytes],
 ) -> Result<PageMap, AllocError>
-    requires units { TakesBelow (length units.now) now }
-    requires contents { TakesBelow (length contents.now) now }
+    requires units { PutsBelow (length units.now) now }
+    requires contents { PutsBelow (length contents.now) now }
     ensures { IfOk result (λ pages. pages ≡ (or_empty (option_map (laid units.now (held_in contents.now)) now)).pages) }
 {
     match now {
@@ -61,14 +65,15 @@ fn lay_pages(
     }
 }
 
-// Where the first of its shards begins.
-fn opening(shards: &[Shard]) -> Option<u32>
-    ensures { result ≡ opening shards.now }
+// The pages where these shards begin.
+fn openings(alloc: Global, shards: &[Shard]) -> Result<UnitSet, AllocError>
+    ensures { IfOk result (λ pages. pages ≡ openings shards.now set.empty) }
 {
-    match shards.first() {
-        Some(shard) => Some(shard.first_page()),
-        None => None,
+    let mut pages = UnitSet::new(alloc);
+    for shard in shards {
+        pages.insert(shard.first_page())?;
     }
+    Ok(pages)
 }
 
 // The shard that begins at this page goes, but for one that comes anew.
@@ -76,16 +81,16 @@ fn drop_shard(
     alloc: Global,
     coll: &CollName,
     object: &Name,
-    anew: Option<u32>,
+    anew: &UnitSet,
     page: u32,
     changes: &mut RowChanges,
 ) -> Result<(), AllocError>
-    ensures { OnOk result (changes.new ≡ without_shard coll.now object.now anew page changes.old) }
+    ensures { OnOk result (changes.new ≡ without_shard coll.now object.now anew.now page changes.old) }
 {
-    match anew {
-        Some(first) if first == page => Ok(()),
-        _ => changes.set(shard_key(alloc, coll, object, page)?, None),
+    if anew.contains(page) {
+        return Ok(());
     }
+    changes.set(shard_key(alloc, coll, object, page)?, None)
 }
 
 // So do those that begin at these pages.
@@ -93,11 +98,11 @@ fn drop_shards(
     alloc: Global,
     coll: &CollName,
     object: &Name,
-    anew: Option<u32>,
+    anew: &UnitSet,
     pages: &[u32],
     changes: &mut RowChanges,
 ) -> Result<(), AllocError>
-    ensures { OnOk result (changes.new ≡ without_shards coll.now object.now anew pages.now changes.old) }
+    ensures { OnOk result (changes.new ≡ without_shards coll.now object.now anew.now pages.now changes.old) }
 {
     for page in pages {
         drop_shard(alloc, coll, object, anew, *page, changes)?;
@@ -140,30 +145,82 @@ fn put_onode(
     }
 }
 
-// These shards come.
+// Whether a row has this value.
+fn has_value(held: Option<&Bytes>, value: &[u8]) -> bool
+    ensures { result ≡ has_value (option_copied held.entry) value.now }
+{
+    match held {
+        Some(held) => byte_order(held.as_slice(), value) == Ordering::Equal,
+        None => false,
+    }
+}
+
+// This shard comes, but for one whose row has its bytes already. They are written into the buffer first, and copied where they are new.
+fn put_shard(
+    alloc: Global,
+    width: Width,
+    rows: &RowTable,
+    coll: &CollName,
+    object: &Name,
+    shard: &Shard,
+    bytes: &mut Vec<u8>,
+    changes: &mut RowChanges,
+) -> Result<(), AllocError>
+    ensures { OnOk result (changes.new ≡ with_shard width rows.now.rows coll.now object.now shard.now changes.old) }
+{
+    let key = shard_key(alloc, coll, object, shard.first_page())?;
+    bytes.clear();
+    shard.push(width, bytes)?;
+    if has_value(rows.get(key.as_slice()), bytes.as_slice()) {
+        return Ok(());
+    }
+    let value = Bytes::from_slice(alloc, bytes.as_slice())?;
+    changes.set(key, Some(value))
+}
+
+// So do these.
 fn put_shards(
     alloc: Global,
     width: Width,
+    rows: &RowTable,
     coll: &CollName,
     object: &Name,
     shards: &[Shard],
     changes: &mut RowChanges,
 ) -> Result<(), AllocError>
-    ensures { OnOk result (changes.new ≡ with_shards width coll.now object.now shards.now changes.old) }
+    ensures { OnOk result (changes.new ≡ with_shards width rows.now.rows coll.now object.now shards.now changes.old) }
 {
+    let mut bytes = Vec::new(alloc);
     for shard in shards {
-        let key = shard_key(alloc, coll, object, shard.first_page())?;
-        let value = shard.encode(alloc, width)?;
-        changes.set(key, Some(value))?;
+        put_shard(alloc, width, rows, coll, object, shard, &mut bytes, changes)?;
     }
     Ok(())
 }
 
-// All its shards are written anew, and its onode where it is longer or shorter. There is no bound on the bytes of a shard, so there is one, or none
-// without pages.
-fn put_object(
+// An object with shards at these pages gets this map: its shards are those of the map, cut with the bound.
+fn put_map(
     alloc: Global,
     width: Width,
+    rows: &RowTable,
+    coll: &CollName,
+    object: &Name,
+    present: &[u32],
+    pages: &PageMap,
+    changes: &mut RowChanges,
+) -> Result<(), AllocError>
+    ensures { OnOk result (changes.new ≡ with_map width rows.now.rows coll.now object.now present.now pages.now changes.old) }
+{
+    let anew = split(alloc, width, pages, Some(SHARD_BYTES))?;
+    let opening = openings(alloc, &anew)?;
+    drop_shards(alloc, coll, object, &opening, present, changes)?;
+    put_shards(alloc, width, rows, coll, object, &anew, changes)
+}
+
+// An object that was looked at gets its rows: its onode by its size alone, and its shards by its map alone.
+fn put_touched(
+    alloc: Global,
+    width: Width,
+    rows: &RowTable,
     coll: &CollName,
     object: &Name,
     touched: Touched,
@@ -171,11 +228,12 @@ fn put_object(
     contents: &[SharedBytes],
     changes: &mut RowChanges,
 ) -> Result<(), AllocError>
-    requires units { TakesBelow (length units.now) touched.now }
-    requires contents { TakesBelow (length contents.now) touched.now }
+    requires units { PutsBelow (length units.now) touched.now }
+    requires contents { PutsBelow (length contents.now) touched.now }
     ensures { OnOk result (changes.new
-        ≡ with_object width coll.now object.now touched.before touched.shards.items (laid_now units.now (held_in contents.now) touched) changes.old) }
+        ≡ with_touched width rows.now.rows coll.now units.now (held_in contents.now) object.now touched changes.old) }
 {
+    let is_moved = touched.is_moved();
     let Touched {
         before,
         shards,
@@ -183,35 +241,12 @@ fn put_object(
         left: _,
     } = touched;
     let size = now.as_ref().map(|draft| draft.size);
-    let pages = lay_pages(alloc, now, units, contents)?;
-    let anew = split(alloc, width, &pages, None)?;
-    drop_shards(alloc, coll, object, opening(&anew), &shards, changes)?;
     put_onode(alloc, coll, object, before, size, changes)?;
-    put_shards(alloc, width, coll, object, &anew, changes)
-}
-
-// The same of an object that was looked at, where it isn't what it was.
-fn put_touched(
-    alloc: Global,
-    width: Width,
-    coll: &CollName,
-    object: &Name,
-    touched: Touched,
-    units: &[UnitNo],
-    contents: &[SharedBytes],
-    changes: &mut RowChanges,
-) -> Result<(), AllocError>
-    requires units { TakesBelow (length units.now) touched.now }
-    requires contents { TakesBelow (length contents.now) touched.now }
-    ensures { OnOk result (changes.new
-        ≡ with_touched width coll.now units.now (held_in contents.now) object.now touched changes.old) }
-{
-    if !touched.is_changed() {
+    if !is_moved {
         return Ok(());
     }
-    put_object(
-        alloc, width, coll, object, touched, units, contents, changes,
-    )
+    let pages = lay_pages(alloc, now, units, contents)?;
+    put_map(alloc, width, rows, coll, object, &shards, &pages, changes)
 }
 
 // ---- all objects
@@ -231,10 +266,11 @@ fn names_of(alloc: Global, objects: &ByteMap<Touched>) -> Result<Vec<Name>, Allo
     Ok(names)
 }
 
-// Those of them that aren't what they were get their rows anew.
+// Each of them gets its rows.
 fn put_objects(
     alloc: Global,
     width: Width,
+    rows: &RowTable,
     coll: &CollName,
     mut objects: ByteMap<Touched>,
     units: &[UnitNo],
@@ -245,12 +281,14 @@ fn put_objects(
     requires units { AllTakeBelow (length units.now) objects }
     requires contents { AllTakeBelow (length contents.now) objects }
     ensures { OnOk result (changes.new
-        ≡ with_objects width coll.now units.now (held_in contents.now) (finite.keys objects) objects changes.old) }
+        ≡ with_objects width rows.now.rows coll.now units.now (held_in contents.now) (finite.keys objects) objects changes.old) }
 {
     let names = names_of(alloc, &objects)?;
     for name in names.as_slice() {
         if let Some(touched) = objects.take(name.as_slice()) {
-            put_touched(alloc, width, coll, name, touched, units, contents, changes)?;
+            put_touched(
+                alloc, width, rows, coll, name, touched, units, contents, changes,
+            )?;
         }
     }
     Ok(())
@@ -269,11 +307,13 @@ fn put_collection(
     changes.set(coll_key(alloc, coll)?, row)
 }
 
-/// The changes of rows that a planned transaction comes to, where it has taken these units and they are to hold these bytes: those of values,
-/// the onode and the shards of each object whose layout isn't what it was, and the row of the collection where an operation was on that.
+/// The changes of these rows that a planned transaction comes to, where it has taken these units and they are to hold these bytes: those of
+/// values, the onode of each object that is longer or shorter than it was, the shards of each of which a page has moved, and the row of the
+/// collection where an operation was on that.
 pub fn changed_rows(
     alloc: Global,
     width: Width,
+    rows: &RowTable,
     txn: &Transaction,
     planning: Planning,
     units: &[UnitNo],
@@ -282,7 +322,7 @@ pub fn changed_rows(
     requires named { AllNamed planning.objects }
     requires units { AllTakeBelow (length units.now) planning.objects }
     requires contents { AllTakeBelow (length contents.now) planning.objects }
-    ensures { IfOk result (λ changes. (rows : Rows) → IsChangesOf width rows txn.now planning units.now (held_in contents.now) changes) }
+    ensures { IfOk result (λ changes. IsChangesOf width rows.now.rows txn.now planning units.now (held_in contents.now) changes) }
 {
     coll_name_is_one(txn.coll());
     let Planning {
@@ -292,7 +332,16 @@ pub fn changed_rows(
         ..
     } = planning;
     let coll = txn.coll();
-    put_objects(alloc, width, coll, objects, units, contents, &mut changes)?;
+    put_objects(
+        alloc,
+        width,
+        rows,
+        coll,
+        objects,
+        units,
+        contents,
+        &mut changes,
+    )?;
     if is_any_on_coll(txn.ops()) {
         put_collection(alloc, coll, there, &mut changes)?;
     }

@@ -25,5 +25,5 @@ mod steps;
 mod touched;
 mod turns;
 
-pub use drafts::{Draft, begin};
+pub use drafts::{TxnDraft, begin};
 pub use fails::PlanFail;

@@ -9,7 +9,7 @@ ghost use Rattle.txn_planner.specs.Laying.{is_on_coll};
 
 use byte_maps::Bytes;
 use object_model::{Op, Pair, ends_too_far};
-use onode_state::name_is_one;
+use object_rows::name_is_one;
 use unit_fields::Name;
 
 fn is_on_coll(op: &Op) -> bool

@@ -3,10 +3,9 @@ ghost use Rattle.std.specs.Prelude.{◌≡◌, ◌⊎◌, ℕ, List, Option, Som
 ghost use Rattle.std.specs.Option.{option_map};
 ghost use Rattle.std.specs.FinMap as finite;
 ghost use Rattle.unit_fields.specs.Prelude.{IsName};
-ghost use Rattle.row_format.specs.Prelude.{coll_key, onode_key};
 ghost use Rattle.store_image.specs.Prelude.{HasKey};
 ghost use Rattle.plan_drafts.specs.Prelude.{Layout, HasLayout, draft_of, HasSome, IsBare, CollDraft};
-ghost use Rattle.onode_state.specs.Objects.{AreRowsOfAStore, AreRowsOfWidth};
+ghost use Rattle.object_rows.specs.Stores.{AreRowsOfAStore, AreRowsOfWidth};
 ghost use Rattle.unit_fields.specs.declared.width.Width.{Width};
 ghost use Rattle.txn_planner.specs.Touching.{IsTouched};
 ghost use Rattle.txn_planner.specs.Planning.{IsStateOf, first_draft, any_there, HasUntouched, AllTouched};
@@ -15,8 +14,7 @@ use crate::touched::{Touched, load};
 use blob_map::Place;
 use byte_maps::{ByteMap, Bytes};
 use meta_rows::RowTable;
-use object_reader::next_name;
-use onode_codec::{coll_key, onode_key};
+use object_rows::{has_collection, has_onode, next_name};
 use page_edits::PageWrite;
 use row_changes::RowChanges;
 use std::alloc::{AllocError, Global};
@@ -39,27 +37,6 @@ pub struct Planning {
     pub left: Vec<UnitNo>,
     /// How many units were taken.
     pub taken: u32,
-}
-
-/// Whether the collection has a row.
-pub fn has_collection(alloc: Global, rows: &RowTable, coll: &CollName) -> Result<bool, AllocError>
-    ensures { IfOk result (λ there. there ≡ finite.contains_key rows.now.rows (coll_key coll.now)) }
-{
-    let key = coll_key(alloc, coll)?;
-    Ok(rows.get(key.as_slice()).is_some())
-}
-
-// Whether the object has an onode.
-fn has_onode(
-    alloc: Global,
-    rows: &RowTable,
-    coll: &CollName,
-    object: &Name,
-) -> Result<bool, AllocError>
-    ensures { IfOk result (λ there. there ≡ finite.contains_key rows.now.rows (onode_key coll.now object.now)) }
-{
-    let key = onode_key(alloc, coll, object)?;
-    Ok(rows.get(key.as_slice()).is_some())
 }
 
 impl Planning {

@@ -8,7 +8,7 @@ ghost use Rattle.unit_fields.specs.Prelude.{Ascends};
 ghost use Rattle.crc32c_csum.specs.Prelude.{crc32c};
 ghost use Rattle.plan_drafts.specs.Prelude.{filled};
 ghost use Rattle.page_edits.specs.Writes.{held_in};
-ghost use Rattle.txn_planner.specs.Standing.{Adds, IsPut, IsPutOf, IsPutIn};
+ghost use Rattle.txn_planner.specs.Standing.{GetsNumbers, IsPutBy, IsPutOf, IsPutIn};
 
 use crate::touched::Touched;
 use crate::turns::insert_all;
@@ -21,7 +21,7 @@ use unit_fields::{UnitNo, UnitSet};
 
 // Puts the takings by which pages were put in the set.
 fn insert_puts(takings: &mut UnitSet, puts: &NumberMap<u32>) -> Result<(), AllocError>
-    ensures { OnOk result (Adds (IsPut puts.now) takings.old takings.new) }
+    ensures { OnOk result (GetsNumbers (IsPutBy puts.now) takings.old takings.new) }
 {
     for entry in puts.entries() {
         takings.insert(entry.1)?;
@@ -31,7 +31,7 @@ fn insert_puts(takings: &mut UnitSet, puts: &NumberMap<u32>) -> Result<(), Alloc
 
 // Puts those of an object's pages in the set.
 fn insert_puts_of(takings: &mut UnitSet, touched: &Touched) -> Result<(), AllocError>
-    ensures { OnOk result (Adds (IsPutOf touched.entry.now) takings.old takings.new) }
+    ensures { OnOk result (GetsNumbers (IsPutOf touched.entry.now) takings.old takings.new) }
 {
     match &touched.now {
         Some(draft) => insert_puts(takings, &draft.puts),

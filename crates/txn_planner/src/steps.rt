@@ -4,13 +4,13 @@ ghost use Rattle.std.specs.List.{flat_map};
 ghost use Rattle.std.specs.Option.{IfSome};
 ghost use Rattle.object_model.specs.Prelude.{is_too_large};
 ghost use Rattle.object_model.specs.declared.op.Op.TheVariants.{Touch, Truncate, Remove};
-ghost use Rattle.plan_drafts.specs.Prelude.{IsKnown, IsOnObject, IsWithin, is_beyond, object_of, HasNames, own_units, or_new, edit_on, edit_of, IsBare};
+ghost use Rattle.plan_drafts.specs.Prelude.{IsKnown, IsOnObject, IsInLimits, is_beyond, object_of, HasNames, units_released, or_new, edit_on, edit_of, IsBare};
 ghost use Rattle.unit_fields.specs.Prelude.{IsName};
-ghost use Rattle.onode_state.specs.Objects.{AreRowsOfAStore, AreRowsOfWidth};
+ghost use Rattle.object_rows.specs.Stores.{AreRowsOfAStore, AreRowsOfWidth};
 ghost use Rattle.value_changes.specs.Changed.{AreOfValues, ChangesValues};
 ghost use Rattle.page_edits.specs.Ranges.{IsOnBytes};
 ghost use Rattle.txn_planner.specs.Planning.{PlannedTo};
-ghost use Rattle.txn_planner.specs.Drafts.{Refuses};
+ghost use Rattle.txn_planner.specs.Drafts.{IsPlanRefused};
 ghost use Rattle.txn_planner.specs.Steps.{ChangesObject, IsTruncate, OfState, IsNotMade, IsNotDropped, IsFit, IsUnfit, AddsEdit, EditsDraft, EditsObject, LeavesObject, DropsObject, MakesObject, has_any};
 ghost use Rattle.unit_fields.specs.declared.width.Width.{Width};
 
@@ -22,7 +22,7 @@ use blob_map::{PageMap, Place};
 use meta_rows::RowTable;
 use number_map::NumberMap;
 use object_model::{Op, Refusal, Transaction};
-use onode_state::{coll_name_is_one, name_is_one};
+use object_rows::{coll_name_is_one, name_is_one};
 use page_edits::{Edited, PageWrite, edit};
 use plan_drafts::Draft;
 use std::alloc::{AllocError, Global};
@@ -95,7 +95,7 @@ fn check_object(
 
 // Adds the units of pages that were left.
 fn add_left(left: &mut Vec<UnitNo>, pages: &[(u32, Place)]) -> Result<(), AllocError>
-    ensures { OnOk result (left.new.items ≡ left.old.items ++ flat_map (λ p. own_units p.1) pages.now) }
+    ensures { OnOk result (left.new.items ≡ left.old.items ++ flat_map (λ p. units_released p.1) pages.now) }
 {
     for entry in pages {
         left.push(entry.1.unit)?;
@@ -176,7 +176,7 @@ fn edit_draft(
     p: &mut Planning,
 ) -> Result<(), AllocError>
     requires bytes { IsOnBytes op.now }
-    requires within { IsWithin op.now }
+    requires within { IsInLimits op.now }
     requires few { p.old.taken ≤ 2 ^ 24 }
     ensures { OnOk result (EditsDraft op.now at object.now touched draft p.old p.new) }
 {
@@ -199,7 +199,7 @@ fn edit_object(
 ) -> Result<(), AllocError>
     requires good { AreRowsOfWidth width rows.now.rows }
     requires bytes { IsOnBytes op.now }
-    requires within { IsWithin op.now }
+    requires within { IsInLimits op.now }
     requires few { p.old.taken ≤ 2 ^ 24 }
     ensures { OnOk result (EditsObject width rows.now.rows coll.now op.now at p.old p.new
         ⊎ (LeavesObject width rows.now.rows coll.now op.now p.old p.new × IsTruncate op.now)) }
@@ -320,7 +320,7 @@ pub fn plan_op(
     requires taken { p.old.taken ≤ 258 * at }
     requires of_values { AreOfValues txn.now.coll p.old.values }
     ensures ok { OnOk result (PlannedTo width txn.now rows.now.rows at p.old → PlannedTo width txn.now rows.now.rows (at + 1) p.new) }
-    ensures fail { IfErr result (λ why. PlannedTo width txn.now rows.now.rows at p.old → Refuses width txn.now rows.now.rows why) }
+    ensures fail { IfErr result (λ why. PlannedTo width txn.now rows.now.rows at p.old → IsPlanRefused width txn.now rows.now.rows why) }
     ensures taken { OnOk result (PlannedTo width txn.now rows.now.rows at p.old → p.new.taken ≤ 258 * (at + 1)) }
     ensures of_values { OnOk result (AreOfValues txn.now.coll p.new.values) }
 {

@@ -2,14 +2,15 @@
 ghost use Rattle.std.specs.Prelude.{◌≡◌, ℕ, List, Option, Some, None, true, false, IfOk};
 ghost use Rattle.std.specs.Option.{option_map};
 ghost use Rattle.plan_drafts.specs.Prelude.{Layout, HasLayout, draft_of, or_empty, size_at};
-ghost use Rattle.onode_state.specs.Objects.{AreRowsOfWidth};
+ghost use Rattle.object_rows.specs.Stores.{AreRowsOfWidth};
 ghost use Rattle.txn_planner.specs.Touching.{IsTouched};
-ghost use Rattle.txn_planner.specs.Laying.{is_changed};
+ghost use Rattle.txn_planner.specs.Laying.{is_moved};
 
 use blob_map::PageMap;
 use meta_rows::RowTable;
 use number_map::NumberMap;
-use onode_state::{ObjectState, name_is_one, object_state};
+use object_rows::name_is_one;
+use onode_state::{ObjectState, object_state};
 use plan_drafts::Draft;
 use std::alloc::{AllocError, Global};
 use unit_fields::{CollName, Name, Width};
@@ -69,14 +70,13 @@ pub fn load(
 }
 
 impl Touched {
-    /// Whether its layout isn't what it was: it has come or gone, is longer or shorter, or a page has come, gone or moved.
-    pub fn is_changed(&self) -> bool
-        ensures { result ≡ is_changed self.entry.now }
+    /// Whether a page of it has come, gone or moved.
+    pub fn is_moved(&self) -> bool
+        ensures { result ≡ is_moved self.entry.now.left self.entry.now.now }
     {
-        match (self.before, &self.now) {
-            (None, None) => false,
-            (Some(before), Some(now)) => { before != now.size || self.left || !now.puts.is_empty() }
-            _ => true,
+        match &self.now {
+            Some(now) => self.left || !now.puts.is_empty(),
+            None => self.left,
         }
     }
 }

@@ -3,7 +3,7 @@
 //! In Ceph's BlueStore `_txc_finalize_kv` calls `allocate` and `release` of the freelist for the units of a transaction.
 ghost use Rattle.std.specs.Prelude.{map, IfOk, OnOk};
 ghost use Rattle.plan_drafts.specs.Prelude.{TurnsBits};
-ghost use Rattle.txn_planner.specs.Turns.{AddsUnits};
+ghost use Rattle.txn_planner.specs.Turns.{GetsUnits};
 
 use bitmap_freelist::flip_ops;
 use meta_rows::RowOp;
@@ -13,7 +13,7 @@ use unit_fields::{UnitNo, UnitSet};
 
 /// Puts these units in the set, in whichever order they come.
 pub fn insert_all(set: &mut UnitSet, units: &[UnitNo]) -> Result<(), AllocError>
-    ensures { OnOk result (AddsUnits units.now set.old set.new) }
+    ensures { OnOk result (GetsUnits units.now set.old set.new) }
 {
     for unit in units {
         set.insert(unit.number())?;
@@ -23,7 +23,7 @@ pub fn insert_all(set: &mut UnitSet, units: &[UnitNo]) -> Result<(), AllocError>
 
 // Puts the units of these in the set.
 fn insert_fresh(set: &mut UnitSet, fresh: &[FreshUnit]) -> Result<(), AllocError>
-    ensures { OnOk result (AddsUnits (map (λ f. f.unit) fresh.now) set.old set.new) }
+    ensures { OnOk result (GetsUnits (map (λ f. f.unit) fresh.now) set.old set.new) }
 {
     for one in fresh {
         set.insert(one.unit.number())?;

@@ -5,8 +5,8 @@ use Rattle.store_steps.specs.declared.context.Context.{Context}
 use Rattle.txn_states.specs.Applied.{Applied, applied_of}
 
 -- the context of a plan, none of whose data writes is submitted
-abbrev pub context_of : ℕ → List ℕ → Plan → ℕ → Context
-context_of place coll plan need = record {
+abbrev pub prepared_context : ℕ → List ℕ → Plan → ℕ → Context
+prepared_context place coll plan need = record {
   place = place;
   coll = coll;
   ops = plan.ops;
@@ -18,7 +18,7 @@ context_of place coll plan need = record {
 }
 
 -- nothing of it was submitted, and its units can be counted
-pub record IsPrepared (x : Context) : Type 0 where
+pub record NoneSubmitted (x : Context) : Type 0 where
   pub given : x.given ≡ 0
   pub done : x.done ≡ 0
   pub few : length x.fresh < 2 ^ 32

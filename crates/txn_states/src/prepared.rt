@@ -1,6 +1,6 @@
 //! A transaction that was accepted.
 ghost use Rattle.std.specs.Prelude.{◌≡◌, ◌<◌, ◌^◌, length};
-ghost use Rattle.txn_states.specs.States.{context_of};
+ghost use Rattle.txn_states.specs.States.{prepared_context};
 
 use crate::waiting::Waiting;
 use plan_rows::Plan;
@@ -19,11 +19,11 @@ impl Model for Prepared {
 
     ghost Value = { Context };
 
-    ghost use Rattle.txn_states.specs.States.{IsPrepared};
+    ghost use Rattle.txn_states.specs.States.{NoneSubmitted};
 
     ghost view = { λ a. a.context };
 
-    ghost invariant = { λ a. IsPrepared a.context };
+    ghost invariant = { λ a. NoneSubmitted a.context };
 }
 
 impl Prepared {
@@ -31,7 +31,7 @@ impl Prepared {
     /// The kernel makes one when it accepts a transaction. The old bytes that were read for the plan are let go.
     pub fn new(place: u32, coll: CollName, plan: Plan, need: u32) -> Prepared
         requires { length plan.fresh < 2 ^ 32 }
-        ensures { result ≡ context_of place coll plan need }
+        ensures { result ≡ prepared_context place coll plan need }
     {
         let Plan {
             ops,

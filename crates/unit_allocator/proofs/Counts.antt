@@ -3,7 +3,7 @@ use Rattle.std.proofs.Common.{◌≡◌, ◌≢◌, ℕ, zero, suc, ◌+◌, ◌
 use Rattle.std.specs.List.{filter, range_with_len}
 use Rattle.std.proofs.lemmas.List.{get_or-set_same, get_or-set_other}
 use Rattle.std.proofs.lemmas.Bool.{cases_eq}
-use Rattle.unit_allocator.specs.Prelude.{bit, idle_and_unheld, IsSound}
+use Rattle.unit_allocator.specs.Prelude.{bit, idle_and_unheld, IsSoundSpace}
 
 pub same_filter : (p t : ℕ → Bool) (a n : ℕ) → ((q : ℕ) → a ≤ q → q < a + n → t q ≡ p q) → filter t (range_with_len a n) ≡ filter p (range_with_len a n)
 same_filter p t a zero is = refl
@@ -80,14 +80,14 @@ module _ (idle : List Bool) (holds : List ℕ) (at : ℕ) where
 -- one free unit less, and one more
 pub record Lost (first : ℕ) (idle : List Bool) (holds words : List ℕ) (free low : ℕ) : Type 0 where
   pub some : 1 ≤ free
-  pub sound : IsSound first idle holds words (free - 1) low
+  pub sound : IsSoundSpace first idle holds words (free - 1) low
 
 pub record Won (first : ℕ) (idle : List Bool) (holds words : List ℕ) (free low : ℕ) : Type 0 where
   pub fits : free + 1 < 2 ^ 32
-  pub sound : IsSound first idle holds words (free + 1) low
+  pub sound : IsSoundSpace first idle holds words (free + 1) low
 
 -- The fields after one unit's change. `at` counts from the first unit.
-module _ {first : ℕ} {idle : List Bool} {holds words : List ℕ} {free low : ℕ} (s : IsSound first idle holds words free low)
+module _ {first : ℕ} {idle : List Bool} {holds words : List ℕ} {free low : ℕ} (s : IsSoundSpace first idle holds words free low)
     (idle' : List Bool) (holds' words' : List ℕ) (at : ℕ)
     (idle_len : length idle' ≡ length idle) (holds_len : length holds' ≡ length holds) (words_len : length words' ≡ length words) (within : at < length idle)
     (same : (q : ℕ) → q ≢ at → idle_and_unheld idle' holds' q ≡ idle_and_unheld idle holds q) where
@@ -151,7 +151,7 @@ module _ {first : ℕ} {idle : List Bool} {holds words : List ℕ} {free low : �
           bound false xs le = omega (arith, le)
 
   -- where the unit is as free as before
-  pub kept : words' ≡ words → idle_and_unheld idle' holds' at ≡ idle_and_unheld idle holds at → IsSound first idle' holds' words' free low
+  pub kept : words' ≡ words → idle_and_unheld idle' holds' at ≡ idle_and_unheld idle holds at → IsSoundSpace first idle' holds' words' free low
   kept unchanged is =
       let all : (q : ℕ) → idle_and_unheld idle' holds' q ≡ idle_and_unheld idle holds q =
       λ q. elim (cases_eq q at) [ inl e ↦ ap (idle_and_unheld idle' holds') e ∙ is ∙ sym (ap (idle_and_unheld idle holds) e) | inr e ↦ same q e ] in

@@ -13,7 +13,7 @@ use Rattle.std.proofs.lemmas.Bool.Decides.{nat_tests}
 use Rattle.number_map.specs.NumberMap.{NumberMap}
 use Rattle.number_map.proofs.Laws.{get_same, get_other}
 use Rattle.number_map.proofs.Places.{same_number}
-use Rattle.unit_allocator.specs.Prelude.{bit, Space, IsWithin, idle_and_unheld, unheld, holds_of, IsSound, flags, hold_count, hold_counts, count_or_none, AreSound}
+use Rattle.unit_allocator.specs.Prelude.{bit, Space, IsWithin, idle_and_unheld, unheld, holds_of, IsSoundSpace, flags, hold_count, hold_counts, count_or_none, AreSound}
 use Rattle.unit_allocator.proofs.Steps.{take_step, give_step, hold_step, unhold_step, hold_same, unhold_held, give_held_step, hold_busy_step}
 use Rattle.unit_allocator.proofs.Counts.{all_pass}
 
@@ -197,7 +197,7 @@ module _ {first count : ℕ} {idle : List ℕ} {holds : NumberMap ℕ} {words : 
         some = step.some;
         sound = record {
           idle_room = omega (arith, s.idle_room, idle_len);
-          sound = subst (λ fs. IsSound first fs (hold_counts holds count) words' (free - 1) low)
+          sound = subst (λ fs. IsSoundSpace first fs (hold_counts holds count) words' (free - 1) low)
               (sym (flags_set idle idle' count at false idle_here idle_there)) step.sound;
         };
       }
@@ -213,7 +213,7 @@ module _ {first count : ℕ} {idle : List ℕ} {holds : NumberMap ℕ} {words : 
         fits = step.fits;
         sound = record {
           idle_room = omega (arith, s.idle_room, idle_len);
-          sound = subst (λ fs. IsSound first fs (hold_counts holds count) words' (free + 1) low')
+          sound = subst (λ fs. IsSoundSpace first fs (hold_counts holds count) words' (free + 1) low')
               (sym (flags_set idle idle' count at true idle_here idle_there)) step.sound;
         };
       }
@@ -223,7 +223,7 @@ module _ {first count : ℕ} {idle : List ℕ} {holds : NumberMap ℕ} {words : 
       → 0 < get_or (hold_counts holds count) at 0 → AreSound first count idle' holds words free low
   give_held idle' idle_len idle_here idle_there some = record {
     idle_room = omega (arith, s.idle_room, idle_len);
-    sound = subst (λ fs. IsSound first fs (hold_counts holds count) words free low)
+    sound = subst (λ fs. IsSoundSpace first fs (hold_counts holds count) words free low)
         (sym (flags_set idle idle' count at true idle_here idle_there)) (give_held_step s.sound at within 1 some);
   }
 
@@ -237,7 +237,7 @@ module _ {first count : ℕ} {idle : List ℕ} {holds : NumberMap ℕ} {words : 
         some = step.some;
         sound = record {
           idle_room = s.idle_room;
-          sound = subst (λ hs. IsSound first (flags idle count) hs words' (free - 1) low)
+          sound = subst (λ hs. IsSoundSpace first (flags idle count) hs words' (free - 1) low)
               (sym (counts_set holds holds' count at (hold_count holds at + 1) more others)) step.sound;
         };
       }
@@ -247,7 +247,7 @@ module _ {first count : ℕ} {idle : List ℕ} {holds : NumberMap ℕ} {words : 
       → bit words at ≡ false → AreSound first count idle holds' words free low
   hold_again holds' more others was = record {
     idle_room = s.idle_room;
-    sound = subst (λ hs. IsSound first (flags idle count) hs words free low)
+    sound = subst (λ hs. IsSoundSpace first (flags idle count) hs words free low)
         (sym (counts_set holds holds' count at (hold_count holds at + 1) more others))
         (hold_same s.sound at within (hold_count holds at + 1) (omega arith) (sym (s.sound.bits at) ∙ was));
   }
@@ -262,7 +262,7 @@ module _ {first count : ℕ} {idle : List ℕ} {holds : NumberMap ℕ} {words : 
         fits = step.fits;
         sound = record {
           idle_room = s.idle_room;
-          sound = subst (λ hs. IsSound first (flags idle count) hs words' (free + 1) low')
+          sound = subst (λ hs. IsSoundSpace first (flags idle count) hs words' (free + 1) low')
               (sym (counts_set holds holds' count at 0 none others)) step.sound;
         };
       }
@@ -272,7 +272,7 @@ module _ {first count : ℕ} {idle : List ℕ} {holds : NumberMap ℕ} {words : 
       → 0 < get_or (hold_counts holds count) at 0 → AreSound first count idle holds' words free low
   unhold_still_held holds' n left others some was = record {
     idle_room = s.idle_room;
-    sound = subst (λ hs. IsSound first (flags idle count) hs words free low)
+    sound = subst (λ hs. IsSoundSpace first (flags idle count) hs words free low)
         (sym (counts_set holds holds' count at n left others)) (unhold_held s.sound at within n some was);
   }
 
@@ -281,7 +281,7 @@ module _ {first count : ℕ} {idle : List ℕ} {holds : NumberMap ℕ} {words : 
       → AreSound first count idle holds' words free low
   unhold_not_idle holds' n left others not_idle = record {
     idle_room = s.idle_room;
-    sound = subst (λ hs. IsSound first (flags idle count) hs words free low)
+    sound = subst (λ hs. IsSoundSpace first (flags idle count) hs words free low)
         (sym (counts_set holds holds' count at n left others)) (hold_busy_step s.sound at within n (flags_at idle count at lt ∙ not_idle));
   }
 

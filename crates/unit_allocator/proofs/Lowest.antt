@@ -3,7 +3,7 @@ use Rattle.std.proofs.Common.{◌≡◌, ℕ, zero, suc, ◌+◌, ◌-◌, ◌<�
 use Rattle.std.specs.List.{filter, range_with_len}
 use Rattle.std.proofs.lemmas.Bool.{cases_lt}
 use Rattle.std.proofs.lemmas.List.{get_or_past, append_assoc}
-use Rattle.unit_allocator.specs.Prelude.{bit, IsFirstBitFrom, HasNoBitFrom, Space, free_units, idle_and_unheld, IsSound}
+use Rattle.unit_allocator.specs.Prelude.{bit, IsFirstBitFrom, HasNoBitFrom, Space, free_units, idle_and_unheld, IsSoundSpace}
 use Rattle.unit_allocator.proofs.Counts.{none_pass}
 
 -- the free units at or behind a place
@@ -38,7 +38,7 @@ module _ (p : ℕ → Bool) (end : ℕ) where
       fails_here from (none from (omega arith) (omega (arith, is)))
       ∙ passed_over n (from + 1) at (omega (arith, is)) (λ q le lt. none q (omega (arith, le)) lt)
 
-module _ {first : ℕ} {idle : List Bool} {holds words : List ℕ} {free low : ℕ} (s : IsSound first idle holds words free low) where
+module _ {first : ℕ} {idle : List Bool} {holds words : List ℕ} {free low : ℕ} (s : IsSoundSpace first idle holds words free low) where
   abbrev space : Space
   space = record { first = first; idle = idle; holds = holds }
 

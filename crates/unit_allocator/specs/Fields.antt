@@ -5,7 +5,7 @@ use Rattle.std.specs.FinMap as finite
 use Rattle.std.specs.List.{range_with_len}
 use Rattle.unit_allocator.specs.Words.{bit}
 use Rattle.unit_allocator.specs.Units.{Space, IsWithin, is_idle}
-use Rattle.unit_allocator.specs.Sound.{IsSound}
+use Rattle.unit_allocator.specs.Sound.{IsSoundSpace}
 
 -- the bits of the first numbers, as a list
 unfoldable pub flags : List ℕ → ℕ → List Bool
@@ -27,7 +27,7 @@ hold_counts holds count = map (hold_count holds) (range_with_len 0 count)
 -- the fields stand for a space, and the bits are those of its free units
 pub record AreSound (first count : ℕ) (idle : List ℕ) (holds : finite.FinMap nat_cmp ℕ) (words : List ℕ) (free low : ℕ) : Type 0 where
   pub idle_room : count ≤ 64 * length idle
-  pub sound : IsSound first (flags idle count) (hold_counts holds count) words free low
+  pub sound : IsSoundSpace first (flags idle count) (hold_counts holds count) words free low
 
 -- the unit isn't idle any more if it was one of the space, and all else is as before
 pub record IsWithout (old new : Space) (unit : ℕ) : Type 0 where

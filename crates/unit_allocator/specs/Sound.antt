@@ -5,7 +5,7 @@ use Rattle.unit_allocator.specs.Words.{bit}
 use Rattle.unit_allocator.specs.Units.{idle_and_unheld}
 
 -- the bits are those of the free units, their number is kept, and none is below the low mark
-pub record IsSound (first : ℕ) (idle : List Bool) (holds words : List ℕ) (free low : ℕ) : Type 0 where
+pub record IsSoundSpace (first : ℕ) (idle : List Bool) (holds words : List ℕ) (free low : ℕ) : Type 0 where
   pub holds_all : length holds ≡ length idle
   pub room : length idle ≤ 64 * length words
   pub few : length words < 2 ^ 32

@@ -22,7 +22,7 @@ use Rattle.unit_allocator.specs.Prelude.{Space}
 use Rattle.meta_rows.specs.declared.row_op.RowOp.{RowOp}
 use Rattle.run_facts.proofs.Prelude.{all_join, all_left, all_right, given_taken, taken_fresh, taken_data, was_up, footprint_of}
 use Rattle.unit_facts.specs.DataUnits.{UnitsAreFlushed, BatchUnitsAreFlushed}
-use Rattle.unit_facts.specs.Known.{IsAnsweredSince, KnownOfUnits, Knows}
+use Rattle.unit_facts.specs.Known.{IsAnsweredSince, KnownOfUnits, KnowsUnits}
 use Rattle.unit_facts.proofs.Events.{IsTold, told_of}
 use Rattle.unit_facts.proofs.Units.{AreOnData}
 use Rattle.unit_facts.proofs.DataKnown.{AreKnown, AreOnDevice, units_known}
@@ -110,7 +110,7 @@ footprint_known base s s' d d' h f kept up known =
     }
 
 pub call_knows : (call : Call) (base : ℕ) (s s' : State) (d d' : Disk) (h : History) → IsKept s d → s'.down ≡ None → KnownOfUnits base s d h
-    → Calls call s d s' d' → Knows base s' d'
+    → Calls call s d s' d' → KnowsUnits base s' d'
 call_knows call base s s' d d' h kept up known made =
     let f : Footprint s d s' d' = footprint_of call s d s' d' kept up made in
     record { history = after f.touch h; known = footprint_known base s s' d d' h f kept (was_up call s d s' d' made up) known }
@@ -118,7 +118,7 @@ call_knows call base s s' d d' h kept up known made =
 pub call_keeps : (call : Call) (base : ℕ) (s s' : State) (d d' : Disk) (h h' : History) → IsKept s d → s'.down ≡ None → KnownOfUnits base s d h
     → Calls call s d s' d' → d'.history ≡ Some h' → KnownOfUnits base s' d' h'
 call_keeps call base s s' d d' h h' kept up known made told =
-    let knows : Knows base s' d' = call_knows call base s s' d d' h kept up known made in
+    let knows : KnowsUnits base s' d' = call_knows call base s s' d d' h kept up known made in
     subst (KnownOfUnits base s' d') (same_Some knows.history h' (sym knows.known.told ∙ told)) knows.known
 
 -- ---- a store that was just opened

@@ -15,7 +15,7 @@ use Rattle.store_image.specs.Prelude.{IsDataUnit}
 use Rattle.log_facts.specs.Prelude.{sent, flushed}
 use Rattle.log_facts.proofs.Keeping.{half_before_data, half_spares_data, flush_sent}
 use Rattle.plan_rows.specs.declared.plan.FreshUnit.{FreshUnit}
-use Rattle.store_steps.specs.Prelude.{Unsent, unsent_units, DataPart, Touch, nothing, ends, flushes, on_data, on_half, on_other, on_slot, after, run_write, IsPlaced, IsNoData, DataGoes, Gives, gives, opens, flushes_batch, retires}
+use Rattle.store_steps.specs.Prelude.{Unsent, unsent_units, DataPart, Touch, nothing, ends, flushes, on_data, on_half, on_other, on_slot, after, run_write, IsPlaced, IsNoData, DataGoes, SubmitsRun, gives, opens, flushes_batch, retires}
 use Rattle.flight_facts.proofs.Prelude.{all_join, all_left, all_right}
 use Rattle.unit_facts.specs.DataUnits.{DataUnitsAreClean, HeldBytesAreLast, UnitsAreFlushed}
 use Rattle.unit_facts.proofs.RunWrites.{row_spares, run_held}
@@ -64,7 +64,7 @@ same_known (on_slot ticket unit bytes) p h spares placed size limits on known =
     spared h (Write unit bytes) p (omega (arith, placed.0, placed.1, limits.room, size)) (λ u is. slot_spares_data p.sup unit u bytes placed.0 placed.1 is) on known
 
 -- a run is submitted
-module _ (h : History) (run : Unsent) (p q : DataPart) (g : Gives run p q) (fit : EventFits (length (last h.start h.log)) (run_write run)) where
+module _ (h : History) (run : Unsent) (p q : DataPart) (g : SubmitsRun run p q) (fit : EventFits (length (last h.start h.log)) (run_write run)) where
   abbrev mine : List FreshUnit
   mine = unsent_units run
 

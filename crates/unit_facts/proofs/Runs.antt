@@ -16,7 +16,7 @@ use Rattle.run_facts.specs.Prelude.{IsKept}
 use Rattle.run_facts.proofs.Prelude.{kept_call, known_idle, IsIdle, idle_uncommitted, was_up}
 use Rattle.log_facts.specs.Prelude.{FlushState, SlotsStand, OtherHalfRests, ActiveHalfStands}
 use Rattle.unit_facts.specs.DataUnits.{DataUnitsAreClean}
-use Rattle.unit_facts.specs.Known.{KnownOfUnits, Knows}
+use Rattle.unit_facts.specs.Known.{KnownOfUnits, KnowsUnits}
 use Rattle.unit_facts.proofs.OtherKnown.{log_clean}
 use Rattle.unit_facts.proofs.Calls.{call_knows}
 
@@ -30,7 +30,7 @@ run_up (call ∷ calls) s s' d d' run up =
 -- ---- a run keeps what is known
 
 pub run_knows : PlansKeep → (calls : List Call) (base : ℕ) (s s' : State) (d d' : Disk) (h : History) → IsKept s d → KnownOfUnits base s d h
-    → IsRun s d calls s' d' → s'.down ≡ None → Knows base s' d'
+    → IsRun s d calls s' d' → s'.down ≡ None → KnowsUnits base s' d'
 run_knows keep [] base s s' d d' h kept known run up =
     let same : KnownOfUnits base s d' h = subst (λ (e : Disk). KnownOfUnits base s e h) (sym run.1) known in
     record { history = h; known = subst (λ (t : State). KnownOfUnits base t d' h) (sym run.0) same }
@@ -38,7 +38,7 @@ run_knows keep (call ∷ calls) base s s' d d' h kept known run up =
     let t : State = run.0 in
     let e : Disk = run.1.0 in
     let after : IsKept t e = kept_call call s t d e keep kept run.1.1.0 run.1.1.1.0 in
-    let mid : Knows base t e = call_knows call base s t d e h kept (run_up calls t s' e d' run.1.1.1.1 up) known run.1.1.0 in
+    let mid : KnowsUnits base t e = call_knows call base s t d e h kept (run_up calls t s' e d' run.1.1.1.1 up) known run.1.1.0 in
     run_knows keep calls base t s' e d' mid.history after mid.known run.1.1.1.1 up
 
 -- ---- once the kernel is drained no unit is dirty

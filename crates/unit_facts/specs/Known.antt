@@ -30,6 +30,6 @@ pub record KnownOfUnits (base : ℕ) (s : State) (d : Disk) (h : History) : Type
   pub flushed : BatchUnitsAreFlushed h s.batch
 
 -- a history is known that the device tells
-pub record Knows (base : ℕ) (s : State) (d : Disk) : Type 0 where
+pub record KnowsUnits (base : ℕ) (s : State) (d : Disk) : Type 0 where
   pub history : History
   pub known : KnownOfUnits base s d history

@@ -8,7 +8,7 @@ ghost use Rattle.unit_allocator.specs.Prelude.{Space};
 ghost use Rattle.plan_drafts.specs.Prelude.{PlansKeep};
 ghost use Rattle.store_steps.specs.Prelude.{State, is_drained, Found, opened, Call, Calls, IsRun};
 ghost use Rattle.run_facts.specs.Prelude.{IsKept};
-ghost use Rattle.unit_facts.specs.Known.{IsAnsweredSince, KnownOfUnits, Knows};
+ghost use Rattle.unit_facts.specs.Known.{IsAnsweredSince, KnownOfUnits, KnowsUnits};
 
 /// A device without a dirty unit, where nothing is in flight and all events since a quiet moment are counted, is known from its slots,
 /// from the records in the active half, with zeros behind them, and from the other half, which is zero where it isn't listed as stale.
@@ -31,7 +31,7 @@ pub fn a_call_keeps_what_is_known()
 #[tactic(auto, using(crate::proofs::Runs::run_knows))]
 pub fn a_run_keeps_what_is_known()
     ensures { PlansKeep → (calls : List Call) (base : ℕ) (s s' : State) (d d' : Disk) (h : History) → IsKept s d →
-        KnownOfUnits base s d h → IsRun s d calls s' d' → s'.down ≡ None → Knows base s' d' }
+        KnownOfUnits base s d h → IsRun s d calls s' d' → s'.down ≡ None → KnowsUnits base s' d' }
 {}
 
 /// Once the kernel is drained no unit of the device is dirty.

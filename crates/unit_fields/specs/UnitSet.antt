@@ -1,11 +1,10 @@
 -- Sets of units as ascending lists.
 use Rattle.std.specs.Prelude.{◌≡◌, ℕ, ◌-◌, ◌<◌, ◌≤◌, List, [], ◌∷◌, length, get_or, slice_index}
-use Rattle.std.specs.List.{AllByRecursion}
+use Rattle.ordered_lists.specs.Lists.{Ascend}
 
 -- each unit is below those behind it
 abbrev pub Ascends : List ℕ → Type 0
-Ascends [] = Unit {0}
-Ascends (u ∷ us) = AllByRecursion (λ v. u < v) us × Ascends us
+Ascends us = Ascend (λ u v. u < v) us
 
 -- the unit stands at this place
 pub record IsPlaceOf (us : List ℕ) (u at : ℕ) : Type 0 where

@@ -42,5 +42,5 @@ pub const MOST_PREFER: u32 = 1048576;
 /// The most pages of an extent.
 pub const EXTENT_PAGES: u16 = 256;
 
-/// The most units of one write of a record.
+/// The most units of one write, and of one read.
 pub const PIECE_UNITS: u32 = 64;

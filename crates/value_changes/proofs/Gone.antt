@@ -8,14 +8,15 @@ use Rattle.meta_rows.specs.Prelude.{Rows}
 use Rattle.row_format.specs.Prelude.{object_key, omap_key}
 use Rattle.store_image.specs.Prelude.{HasKey}
 use Rattle.plan_rows.specs.Prelude.{ValueKey, attribute, header, pair, value_key, IsValueKey, IsKeyOfValue, value_after}
-use Rattle.row_changes.specs.Prelude.{ChangeMap, seen, DropsRange}
+use Rattle.row_changes.specs.Prelude.{ChangeMap, value_seen, DropsRange}
 use Rattle.row_changes.proofs.Keys.{same_or_not}
-use Rattle.value_changes.specs.Changed.{AreGood, AreNames, AreOfValues, ChangesValues, values_first, values_end}
+use Rattle.value_changes.specs.Changed.{NoneBad, AreNames, AreOfValues, ChangesValues}
+use Rattle.object_rows.specs.Fronts.{values_first, values_end}
 use Rattle.value_changes.proofs.ValueKeys.{same_key, in_kind, kind_in, kind_out, pair_in, in_pairs, pairs_out}
 use Rattle.value_changes.proofs.GoodRows.{IsValueKind, are_named}
 use Rattle.value_changes.proofs.Named.{Others, key_of_object, same_seen, changes_values, both_others}
 
-module _ (rows : Rows) (c o : List ℕ) (names : AreNames c o) (good : AreGood rows) where
+module _ (rows : Rows) (c o : List ℕ) (names : AreNames c o) (good : NoneBad rows) where
   -- the keys of a range are of the object's values
   abbrev IsOfObject : List ℕ → Type 0
   IsOfObject key = (kind : ℕ) × (rest : List ℕ) × IsValueKind kind × (key ≡ object_key kind c o rest)
@@ -51,11 +52,11 @@ module _ (rows : Rows) (c o : List ℕ) (names : AreNames c o) (good : AreGood r
   module _ (old new : ChangeMap) (of_values : AreOfValues c old) where
     -- a value of the kind, and one of another
     kind_gone : (kind : ℕ) → DropsRange rows (values_first kind c o) (values_end kind c o) old new → (rest : List ℕ)
-        → seen rows new (object_key kind c o rest) ≡ None
+        → value_seen rows new (object_key kind c o rest) ≡ None
     kind_gone kind drops rest = drops.inside (object_key kind c o rest) (kind_in c o kind rest)
 
     kind_stays : (kind : ℕ) → DropsRange rows (values_first kind c o) (values_end kind c o) old new → (other : ℕ) (rest : List ℕ) → (other ≡ kind → ⊥)
-        → seen rows new (object_key other c o rest) ≡ seen rows old (object_key other c o rest)
+        → value_seen rows new (object_key other c o rest) ≡ value_seen rows old (object_key other c o rest)
     kind_stays kind drops other rest apart = same_seen rows c o names old new (object_key other c o rest)
         (drops.outside (object_key other c o rest) (kind_out c o kind other rest apart))
 
@@ -66,7 +67,7 @@ module _ (rows : Rows) (c o : List ℕ) (names : AreNames c o) (good : AreGood r
     pub attrs_gone : DropsRange rows (values_first 0x41 c o) (values_end 0x41 c o) old new → ChangesValues (RmAttrs o) rows c o old new
     attrs_gone drops = changes_values rows c o names (RmAttrs o) old new own (kind_others 0x41 (inl refl) drops)
       where
-        own : (k : ValueKey) → IsValueKey k → seen rows new (value_key c o k) ≡ value_after (RmAttrs o) k (seen rows old (value_key c o k))
+        own : (k : ValueKey) → IsValueKey k → value_seen rows new (value_key c o k) ≡ value_after (RmAttrs o) k (value_seen rows old (value_key c o k))
         own (attribute n) named = kind_gone 0x41 drops n
         own header named = kind_stays 0x41 drops 0x4d (0x2d ∷ []) omap_not_attr
         own (pair key) named = kind_stays 0x41 drops 0x4d (0x2e ∷ key) omap_not_attr
@@ -74,7 +75,7 @@ module _ (rows : Rows) (c o : List ℕ) (names : AreNames c o) (good : AreGood r
     pub omap_gone : DropsRange rows (values_first 0x4d c o) (values_end 0x4d c o) old new → ChangesValues (OmapClear o) rows c o old new
     omap_gone drops = changes_values rows c o names (OmapClear o) old new own (kind_others 0x4d (inr refl) drops)
       where
-        own : (k : ValueKey) → IsValueKey k → seen rows new (value_key c o k) ≡ value_after (OmapClear o) k (seen rows old (value_key c o k))
+        own : (k : ValueKey) → IsValueKey k → value_seen rows new (value_key c o k) ≡ value_after (OmapClear o) k (value_seen rows old (value_key c o k))
         own (attribute n) named = kind_stays 0x4d drops 0x41 n attr_not_omap
         own header named = kind_gone 0x4d drops (0x2d ∷ [])
         own (pair key) named = kind_gone 0x4d drops (0x2e ∷ key)
@@ -92,15 +93,15 @@ module _ (rows : Rows) (c o : List ℕ) (names : AreNames c o) (good : AreGood r
         (λ key here. let at = in_pairs c o first last key here in (0x4d, 0x2e ∷ at.0, inr refl, at.1)))
       where
         outside : (k : ValueKey) → in_range (omap_key c o first) (omap_key c o last) (value_key c o k) ≡ false
-            → seen rows new (value_key c o k) ≡ seen rows old (value_key c o k)
+            → value_seen rows new (value_key c o k) ≡ value_seen rows old (value_key c o k)
         outside k out = same_seen rows c o names old new (value_key c o k) (drops.outside (value_key c o k) out)
 
         of_pair : (key : List ℕ) (b : Bool) → in_range first last key ≡ b
-            → seen rows new (omap_key c o key) ≡ cond b None (seen rows old (omap_key c o key))
+            → value_seen rows new (omap_key c o key) ≡ cond b None (value_seen rows old (omap_key c o key))
         of_pair key true is = drops.inside (omap_key c o key) (pair_in c o first last key ∙ is)
         of_pair key false is = outside (pair key) (pair_in c o first last key ∙ is)
 
-        own : (k : ValueKey) → IsValueKey k → seen rows new (value_key c o k) ≡ value_after (OmapRmRange o first last) k (seen rows old (value_key c o k))
+        own : (k : ValueKey) → IsValueKey k → value_seen rows new (value_key c o k) ≡ value_after (OmapRmRange o first last) k (value_seen rows old (value_key c o k))
         own (attribute n) named = outside (attribute n) (no_pair (attribute n) first last (λ rest. same_key c o (attribute n) (pair rest)))
         own header named = outside header (no_pair header first last (λ rest. same_key c o header (pair rest)))
         own (pair key) named = of_pair key (in_range first last key) refl
@@ -110,7 +111,7 @@ module _ (rows : Rows) (c o : List ℕ) (names : AreNames c o) (good : AreGood r
       → ChangesValues (Remove o) rows c o old new
   all_gone old mid new first then = changes_values rows c o names (Remove o) old new own (both_others rows c o names old mid new first.others then.others)
     where
-      own : (k : ValueKey) → IsValueKey k → seen rows new (value_key c o k) ≡ value_after (Remove o) k (seen rows old (value_key c o k))
+      own : (k : ValueKey) → IsValueKey k → value_seen rows new (value_key c o k) ≡ value_after (Remove o) k (value_seen rows old (value_key c o k))
       own (attribute n) named = then.own (attribute n) named ∙ first.own (attribute n) named
       own header named = then.own header named
       own (pair key) named = then.own (pair key) named

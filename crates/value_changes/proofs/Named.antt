@@ -12,7 +12,7 @@ use Rattle.meta_rows.specs.Prelude.{Rows}
 use Rattle.row_format.specs.Prelude.{object_key, attr_key, header_key, omap_key}
 use Rattle.row_format.proofs.Prelude.{same_head, same_place}
 use Rattle.plan_rows.specs.Prelude.{ValueKey, attribute, header, pair, value_key, IsValueKey, IsKeyOfValue, value_in, is_among, not_empty, value_after}
-use Rattle.row_changes.specs.Prelude.{ChangeMap, seen}
+use Rattle.row_changes.specs.Prelude.{ChangeMap, value_seen}
 use Rattle.row_changes.proofs.Keys.{same_or_not}
 use Rattle.row_changes.proofs.Logs.{insert_get, seen_insert}
 use Rattle.value_changes.specs.Changed.{AreNames, ChangesValues, with_pair, without_key}
@@ -69,10 +69,10 @@ without_keys c o [] m = m
 without_keys c o (k ∷ ks) m = without_keys c o ks (without_key c o k m)
 
 abbrev pub Own : Op → Rows → List ℕ → List ℕ → ChangeMap → ChangeMap → Type 0
-Own op rows c o old new = (k : ValueKey) → IsValueKey k → seen rows new (value_key c o k) ≡ value_after op k (seen rows old (value_key c o k))
+Own op rows c o old new = (k : ValueKey) → IsValueKey k → value_seen rows new (value_key c o k) ≡ value_after op k (value_seen rows old (value_key c o k))
 
 module _ (rows : Rows) (c o : List ℕ) (names : AreNames c o) where
-  pub same_seen : (old new : ChangeMap) (key : List ℕ) → finite.get new key ≡ finite.get old key → seen rows new key ≡ seen rows old key
+  pub same_seen : (old new : ChangeMap) (key : List ℕ) → finite.get new key ≡ finite.get old key → value_seen rows new key ≡ value_seen rows old key
   same_seen old new key e = ap (λ (x : Option (Option (List ℕ))). unwrap_or x (finite.get rows key)) e
 
   pub changes_values : (op : Op) (old new : ChangeMap) → Own op rows c o old new → Others c o old new → ChangesValues op rows c o old new
@@ -91,7 +91,7 @@ module _ (rows : Rows) (c o : List ℕ) (names : AreNames c o) where
 
   -- an operation that changes no value
   pub none_changed : (op : Op) (m : ChangeMap) → ((k : ValueKey) (old : Option (List ℕ)) → value_after op k old ≡ old) → ChangesValues op rows c o m m
-  none_changed op m same = changes_values op m m (λ k named. sym (same k (seen rows m (value_key c o k)))) (λ key. inr refl)
+  none_changed op m same = changes_values op m m (λ k named. sym (same k (value_seen rows m (value_key c o k)))) (λ key. inr refl)
 
   -- ---- one value
 
@@ -102,16 +102,16 @@ module _ (rows : Rows) (c o : List ℕ) (names : AreNames c o) where
       (λ apart not. inr (insert_get m (value_key c o own) value key ∙ ap (λ b. cond b (Some value) (finite.get m key)) not))
 
   one_seen : (own k : ValueKey) (value : Option (List ℕ)) (m : ChangeMap)
-      → seen rows (finite.insert m (value_key c o own) value) (value_key c o k) ≡ cond (is_one own k) value (seen rows m (value_key c o k))
+      → value_seen rows (finite.insert m (value_key c o own) value) (value_key c o k) ≡ cond (is_one own k) value (value_seen rows m (value_key c o k))
   one_seen own k value m = seen_insert rows m (value_key c o own) value (value_key c o k)
-      ∙ ap (λ b. cond b value (seen rows m (value_key c o k))) (same_key c o own k)
+      ∙ ap (λ b. cond b value (value_seen rows m (value_key c o k))) (same_key c o own k)
 
   one_changed : (op : Op) (own : ValueKey) (value : Option (List ℕ)) (old new : ChangeMap) → IsValueKey own
       → ((k : ValueKey) (x : Option (List ℕ)) → cond (is_one own k) value x ≡ value_after op k x)
       → new ≡ finite.insert old (value_key c o own) value → ChangesValues op rows c o old new
   one_changed op own value old new named agrees is = subst (ChangesValues op rows c o old) (sym is)
       (changes_values op old (finite.insert old (value_key c o own) value)
-      (λ k key_named. one_seen own k value old ∙ agrees k (seen rows old (value_key c o k))) (one_other own value old named))
+      (λ k key_named. one_seen own k value old ∙ agrees k (value_seen rows old (value_key c o k))) (one_other own value old named))
 
   pub attr_set : (name value : List ℕ) (old new : ChangeMap) → IsName name → new ≡ finite.insert old (attr_key c o name) (Some value)
       → ChangesValues (SetAttr o name value) rows c o old new
@@ -157,7 +157,7 @@ module _ (rows : Rows) (c o : List ℕ) (names : AreNames c o) where
       (one_other (pair p.key) (Some p.value) m named.0) (pairs_others ps (with_pair c o p m) named.1)
 
   pairs_seen : (ps : List Pair) (k : ValueKey) (m : ChangeMap)
-      → seen rows (with_pairs c o ps m) (value_key c o k) ≡ value_after (OmapSet o ps) k (seen rows m (value_key c o k))
+      → value_seen rows (with_pairs c o ps m) (value_key c o k) ≡ value_after (OmapSet o ps) k (value_seen rows m (value_key c o k))
   pairs_seen [] (attribute n) m = refl
   pairs_seen [] header m = refl
   pairs_seen [] (pair key) m = refl
@@ -183,7 +183,7 @@ module _ (rows : Rows) (c o : List ℕ) (names : AreNames c o) where
   either_goes false false old = refl
 
   keys_seen : (ks : List (List ℕ)) (k : ValueKey) (m : ChangeMap)
-      → seen rows (without_keys c o ks m) (value_key c o k) ≡ value_after (OmapRm o ks) k (seen rows m (value_key c o k))
+      → value_seen rows (without_keys c o ks m) (value_key c o k) ≡ value_after (OmapRm o ks) k (value_seen rows m (value_key c o k))
   keys_seen [] (attribute n) m = refl
   keys_seen [] header m = refl
   keys_seen [] (pair key) m = refl
@@ -191,7 +191,7 @@ module _ (rows : Rows) (c o : List ℕ) (names : AreNames c o) where
   keys_seen (x ∷ xs) header m = keys_seen xs header (without_key c o x m) ∙ one_seen (pair x) header None m
   keys_seen (x ∷ xs) (pair key) m = keys_seen xs (pair key) (without_key c o x m)
       ∙ ap (λ (old : Option (List ℕ)). cond (is_among xs key) None old) (one_seen (pair x) (pair key) None m)
-      ∙ either_goes (is_same x key) (is_among xs key) (seen rows m (omap_key c o key))
+      ∙ either_goes (is_same x key) (is_among xs key) (value_seen rows m (omap_key c o key))
 
   pub keys_gone : (ks : List (List ℕ)) (old new : ChangeMap) → AllByRecursion IsName ks → new ≡ without_keys c o ks old
       → ChangesValues (OmapRm o ks) rows c o old new

@@ -10,7 +10,7 @@ use Rattle.object_model.specs.Prelude.{is_same}
 use Rattle.row_format.specs.Prelude.{object_key, omap_key}
 use Rattle.row_format.proofs.Prelude.{same_head}
 use Rattle.row_reading.proofs.KeyOrder.{after_front, has_front}
-use Rattle.value_changes.specs.Changed.{values_first, values_end}
+use Rattle.object_rows.specs.Fronts.{values_first, values_end}
 use Rattle.plan_rows.specs.Prelude.{ValueKey, attribute, header, pair, value_key}
 
 -- ---- which are the same

@@ -1,7 +1,7 @@
 //! What an operation makes of an object's values.
 ghost use Rattle.std.specs.Prelude.{OnOk};
 ghost use Rattle.plan_rows.specs.Prelude.{object_of};
-ghost use Rattle.value_changes.specs.Changed.{AreGood, AreOfValues, ChangesValues};
+ghost use Rattle.value_changes.specs.Changed.{NoneBad, AreOfValues, ChangesValues};
 
 use crate::attr_ops::{rm_attr, set_attr};
 use crate::omap_ops::{rm_keys, set_header, set_pairs};
@@ -24,7 +24,7 @@ pub fn change_values(
     coll: &CollName,
     op: &Op,
 ) -> Result<(), AllocError>
-    requires good { AreGood rows.now.rows }
+    requires good { NoneBad rows.now.rows }
     requires of_values { AreOfValues coll.now changes.old }
     ensures { OnOk result (ChangesValues op.now rows.now.rows coll.now (object_of op.now) changes.old changes.new) }
 {

@@ -15,7 +15,7 @@ use Rattle.store_steps.specs.declared.context.Context.{Context}
 use Rattle.store_steps.specs.Prelude.{is_done, chosen, with_context, without_context, given_more, done_more, unsent, run_of}
 use Rattle.txn_states.specs.States.{IsUnderWay}
 use Rattle.waiting_contexts.specs.declared.sequencers.Sequencers.{Sequencers}
-use Rattle.waiting_contexts.specs.Places.{IsAboveAll, IsLast, context_at, is_done_at}
+use Rattle.waiting_contexts.specs.Places.{IsAboveAll, IsLastPlace, context_at, is_done_at}
 use Rattle.waiting_contexts.specs.Heads.{Heads, count_of, IsLeast}
 use Rattle.waiting_contexts.specs.Queues.{turns_in, ChangesAt}
 use Rattle.waiting_contexts.specs.Unsent.{PlacesAscend, unsent_places, has_unsent_at}
@@ -35,11 +35,11 @@ by_name P c d here there = elim (cases_Bool (is_same c d)) [
 
 -- ---- a context behind all
 
-above_by : (b : Bool) (place : ℕ) (x : Context) (ts : List Turn) → x.place < place → op.IsAboveAll place ts → op.IsAboveAll place (cond b (turn_of x ∷ ts) ts)
+above_by : (b : Bool) (place : ℕ) (x : Context) (ts : List Turn) → x.place < place → op.IsAboveTurns place ts → op.IsAboveTurns place (cond b (turn_of x ∷ ts) ts)
 above_by true place x ts lt above = (lt, above)
 above_by false place x ts lt above = above
 
-pub above_turns : (place : ℕ) (c : List ℕ) (xs : List Context) → IsAboveAll place xs → op.IsAboveAll place (turns_of c xs)
+pub above_turns : (place : ℕ) (c : List ℕ) (xs : List Context) → IsAboveAll place xs → op.IsAboveTurns place (turns_of c xs)
 above_turns place c [] above = tt
 above_turns place c (x ∷ xs) above = above_by (is_same c x.coll) place x (turns_of c xs) above.0 (above_turns place c xs above.1)
 
@@ -331,15 +331,15 @@ back_by : (front : List ℕ) (p : ℕ) (b : Bool) → cond b (take (length (fron
 back_by front p true = back_goes front p
 back_by front p false = append-nil front
 
-pub last_goes : (place : ℕ) (xs : List Context) (l : IsLast place xs) → without_context place xs ≡ l.front
+pub last_goes : (place : ℕ) (xs : List Context) (l : IsLastPlace place xs) → without_context place xs ≡ l.front
 last_goes place xs l = ap (without_context place) l.is ∙ goes_last place l.front l.last l.of_place l.above
 
-pub at_the_last : (place : ℕ) (xs : List Context) (l : IsLast place xs) → context_at place xs ≡ Some l.last
+pub at_the_last : (place : ℕ) (xs : List Context) (l : IsLastPlace place xs) → context_at place xs ≡ Some l.last
 at_the_last place xs l =
     ap (λ (n : ℕ). context_at n xs) (sym l.of_place) ∙ ap (context_at l.last.place) l.is
     ∙ at_last l.front l.last (subst (λ (n : ℕ). IsAboveAll n l.front) (sym l.of_place) l.above)
 
-pub queue_withdrawn : (place : ℕ) (xs ys : List Context) (ps qs : List ℕ) (b : Bool) → (l : IsLast place xs) → ps ≡ unsent_places xs → b ≡ has_unsent_at place xs
+pub queue_withdrawn : (place : ℕ) (xs ys : List Context) (ps qs : List ℕ) (b : Bool) → (l : IsLastPlace place xs) → ps ≡ unsent_places xs → b ≡ has_unsent_at place xs
     → ys ≡ without_context place xs → qs ≡ cond b (take (length ps - 1) ps) ps → qs ≡ unsent_places ys
 queue_withdrawn place xs ys ps qs b l is test left now =
     let own : is_some (unsent l.last) ≡ b = sym (test ∙ ap (λ (o : Option Context). option_map_or (λ (x : Context). is_some (unsent x)) o false) (at_the_last place xs l)) in
@@ -361,9 +361,9 @@ not_lost xs ys x p above is grown found =
     let none : ◌≡◌ {A = Option Context} None (Some x) = found ∙ ap (λ (n : ℕ). context_at n ys) is ∙ ap (context_at x.place) grown ∙ at_last xs x above in
     absurd (cc)
 
-pub above_its_turns : (xs : List Context) (x : Context) (p : ℕ) (c : List ℕ) (s : Sequencers) → IsAboveAll x.place xs → p ≡ x.place → HaveTurnsOf xs s → op.IsAboveAll p (turns_in s c)
+pub above_its_turns : (xs : List Context) (x : Context) (p : ℕ) (c : List ℕ) (s : Sequencers) → IsAboveAll x.place xs → p ≡ x.place → HaveTurnsOf xs s → op.IsAboveTurns p (turns_in s c)
 above_its_turns xs x p c s above is tied =
-    subst (λ (n : ℕ). op.IsAboveAll n (turns_in s c)) (sym is) (subst (λ (ts : List Turn). op.IsAboveAll x.place ts) (sym (tied c)) (above_turns x.place c xs above))
+    subst (λ (n : ℕ). op.IsAboveTurns n (turns_in s c)) (sym is) (subst (λ (ts : List Turn). op.IsAboveTurns x.place ts) (sym (tied c)) (above_turns x.place c xs above))
 
 pub entered_as : (xs ys : List Context) (x : Context) (p : ℕ) (b : Bool) (c : List ℕ) (s t : Sequencers) → HaveTurnsOf xs s → ys ≡ xs ++ x ∷ [] → p ≡ x.place → b ≡ is_done x → c ≡ x.coll
     → ChangesAt c (turns_in s c ++ record { place = p; done = b } ∷ []) s t → HaveTurnsOf ys t

@@ -27,5 +27,5 @@ abbrev pub heads_of : BinaryHeap (Reverse ℕ) Global → Heads
 heads_of h = record { places = map (λ (r : Reverse ℕ). r.0) (heap_items h); room = heap_capacity h }
 
 -- the least is on top
-abbrev pub IsInOrder : BinaryHeap (Reverse ℕ) Global → Type 0
-IsInOrder h = IsHeap (λ (x y : Reverse ℕ). nat_cmp y.0 x.0) (heap_items h)
+abbrev pub LeastOnTop : BinaryHeap (Reverse ℕ) Global → Type 0
+LeastOnTop h = IsHeap (λ (x y : Reverse ℕ). nat_cmp y.0 x.0) (heap_items h)

@@ -31,7 +31,7 @@ abbrev pub is_done_at : ℕ → List Context → Bool
 is_done_at place xs = option_map_or (λ (x : Context). is_done x) (context_at place xs) false
 
 -- the last context has this place, which is above the others
-pub record IsLast (place : ℕ) (xs : List Context) : Type 0 where
+pub record IsLastPlace (place : ℕ) (xs : List Context) : Type 0 where
   pub front : List Context
   pub last : Context
   pub is : xs ≡ front ++ last ∷ []

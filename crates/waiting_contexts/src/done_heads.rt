@@ -15,13 +15,13 @@ pub struct DoneHeads {
 }
 
 impl Model for DoneHeads {
-    ghost use Rattle.waiting_contexts.specs.Heads.{Heads, heads_of, IsInOrder};
+    ghost use Rattle.waiting_contexts.specs.Heads.{Heads, heads_of, LeastOnTop};
 
     ghost Value = { Heads };
 
     ghost view = { λ a. heads_of a.heap };
 
-    ghost invariant = { λ a. IsInOrder a.heap };
+    ghost invariant = { λ a. LeastOnTop a.heap };
 }
 
 impl DoneHeads {

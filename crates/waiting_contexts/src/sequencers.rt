@@ -1,6 +1,6 @@
 //! The sequencers of collections.
 ghost use Rattle.std.specs.Prelude.{◌≡◌, ℕ, ◌++◌, List, ◌∷◌, [], true, IfOk, OnOk, OnErr};
-ghost use Rattle.op_sequencer.specs.Turns.{IsAboveAll, has_turn, done_at, ready, behind, without_ready};
+ghost use Rattle.op_sequencer.specs.Turns.{IsAboveTurns, has_turn, done_at, ready, behind, without_ready};
 ghost use Rattle.waiting_contexts.specs.Queues.{turns_in, ChangesAt, SameTurns};
 ghost use Rattle.waiting_contexts.specs.Ties.{is_ready_at};
 
@@ -51,7 +51,7 @@ impl Sequencers {
         place: u32,
         done: bool,
     ) -> Result<bool, AllocError>
-        requires { IsAboveAll place (turns_in self.old coll.now) }
+        requires { IsAboveTurns place (turns_in self.old coll.now) }
         ensures ok { OnOk result (ChangesAt coll.now (turns_in self.old coll.now ++ record { place = place; done = done } ∷ []) self.old self.new) }
         ensures ready { IfOk result (λ ready. ready ≡ is_ready_at place (turns_in self.new coll.now)) }
         ensures err { OnErr result (SameTurns self.old self.new) }

@@ -4,7 +4,7 @@ ghost use mathlib.Core.Bool.{beq};
 ghost use Rattle.store_steps.specs.Prelude.{next_unsent, is_done, with_context, without_context, given_more, done_more};
 ghost use Rattle.txn_states.specs.Writes.{IsWrite};
 ghost use Rattle.txn_states.specs.States.{IsUnderWay};
-ghost use Rattle.waiting_contexts.specs.Places.{IsAboveAll, IsLast, context_at, is_done_at};
+ghost use Rattle.waiting_contexts.specs.Places.{IsAboveAll, IsLastPlace, context_at, is_done_at};
 ghost use Rattle.waiting_contexts.specs.Unsent.{PlacesAscend, IsOfNext};
 
 use crate::by_place::ByPlace;
@@ -136,7 +136,7 @@ impl Submissions {
 
     /// Takes the last context away again, whose place this is.
     pub(crate) fn withdraw(&mut self, place: u32) -> Waiting
-        requires { IsLast place self.old }
+        requires { IsLastPlace place self.old }
         ensures taken { context_at place self.old ≡ Some result }
         ensures left { self.new ≡ without_context place self.old }
     {

@@ -2,7 +2,7 @@
 ghost use Rattle.std.specs.Prelude.{◌≡◌, ◌==◌, ◌+◌, ◌<◌, ◌≤◌, ◌^◌, ℕ, None, Some, IsSome, OnOk, OnErr, option_copied, if◌then◌else◌};
 ghost use Rattle.write_buffers.specs.Buffers.{memory_in, AreNotIn};
 
-use bytes::Bytes;
+use bytes::Bytes as SharedBytes;
 use std::alloc::{AllocError, Global};
 use std::collections::HashMap;
 
@@ -10,7 +10,7 @@ use std::collections::HashMap;
 /// unit are shared by count, and 4096 by who puts them in.
 #[derive(Drop)]
 pub struct WriteBuffers {
-    by_unit: HashMap<u32, Bytes>,
+    by_unit: HashMap<u32, SharedBytes>,
 }
 
 impl WriteBuffers {
@@ -24,7 +24,7 @@ impl WriteBuffers {
     }
 
     /// The bytes of a unit, lent, if they are in memory. Reads call it.
-    pub fn get(&self, unit: u32) -> Option<&Bytes>
+    pub fn get(&self, unit: u32) -> Option<&SharedBytes>
         ensures { option_copied result ≡ memory_in self.now unit }
     {
         self.by_unit.get(&unit)
@@ -51,7 +51,7 @@ impl WriteBuffers {
 
     /// Puts the bytes of a unit in, in place of those that it had. Memory can run out only at a unit that had none, and now and then the
     /// map moves to larger memory. Who takes a transaction calls it.
-    pub fn insert(&mut self, unit: u32, bytes: Bytes) -> Result<(), AllocError>
+    pub fn insert(&mut self, unit: u32, bytes: SharedBytes) -> Result<(), AllocError>
         ensures ok { OnOk result ((u : ℕ) → memory_in self.new u ≡ (if u == unit then Some bytes else memory_in self.old u)) }
         ensures err { OnErr result ((u : ℕ) → memory_in self.new u ≡ memory_in self.old u) }
     {

@@ -4,7 +4,7 @@
 //! of the next epoch goes into the other slot. The rows stay as they are until the halves have changed places, and are never copied.
 ghost use Rattle.std.specs.Prelude.{◌≡◌, ◌↔◌, ◌≤◌, None, length, IsTrue, IfOk, IfSome, OnOk, OnErr, OnSome, MatchOption};
 ghost use Rattle.meta_log.specs.Prelude.{IsSuper, super_bytes, other_slot, next_super, check_units};
-ghost use Rattle.meta_store.specs.Checks.{with_check, with_check_given, with_check_written, switched, LiesInOtherHalf};
+ghost use Rattle.meta_store.specs.Checks.{with_check, with_check_given, with_check_written, switched_log, LiesInOtherHalf};
 ghost use Rattle.meta_store.specs.Checks.{IsCheckGiven, IsCheckLeft, IsCheckOut, IsCheckWritten, IsNextCheck, IsLeftThen};
 
 use super::MetaStore;
@@ -112,7 +112,7 @@ impl MetaStore {
     /// The superblock of the next epoch is stable in the other slot: the halves have changed places. It takes no memory.
     pub fn switch(&mut self)
         requires { IsCheckWritten self.old }
-        ensures { self.new ≡ switched self.old }
+        ensures { self.new ≡ switched_log self.old }
     {
         if let Some(check) = self.check.take() {
             let (units, behind) = check.close();

@@ -9,7 +9,7 @@ ghost use Rattle.store_kernel.specs.Submitting.{IsCauseOf, RefusesBy, IsReadFail
 
 use super::Kernel;
 use crate::buffers::enter;
-use crate::prepared::{Prepared, units_needed};
+use crate::prepared::{PreparedTxn, units_needed};
 use crate::refused::{Cause, Refused};
 use crate::space::take_fresh;
 use block_device::Device;
@@ -60,7 +60,7 @@ impl<D: Device> Kernel<D> {
     }
 
     // The plan of a transaction, and all that accepting it takes memory for but for room in lists.
-    fn prepare(&mut self, alloc: Global, txn: &Transaction) -> Result<Prepared, Cause>
+    fn prepare(&mut self, alloc: Global, txn: &Transaction) -> Result<PreparedTxn, Cause>
         requires known { IsKnown txn.now.ops }
         requires can_note { CanNote self.old.state }
         ensures ok { IfOk result (λ ready. IsPrepared ready txn.now self.old.state (D.disk self.old.device)) }
@@ -78,7 +78,7 @@ impl<D: Device> Kernel<D> {
         }
         let copy = plan.ops.duplicate(alloc)?;
         let coll = txn.coll().copy(alloc)?;
-        Ok(Prepared {
+        Ok(PreparedTxn {
             plan,
             need,
             copy,
@@ -113,7 +113,7 @@ impl<D: Device> Kernel<D> {
         client: u32,
         line: u32,
         txn: Transaction,
-        ready: Prepared,
+        ready: PreparedTxn,
     ) -> Result<u32, Transaction>
         requires known { IsKnown txn.ops }
         requires can_note { CanNote self.old.state }

@@ -7,7 +7,6 @@ replied-end-requires g c = no_turn_away c.args.read c.ask-answered.result _ _ c.
 pub returns-clause-made : goal.returns-clause-made
 returns-clause-made g c =
     replied_ends c.args.client c.args.line c.args.read c.ask-answered.result c.replied-end.result _ _ _ _ c.requires.up
-    c.requires.known
     c.ask-answered.ensures.disk c.ask-answered.ensures.answered c.ask-answered.ensures.unanswered c.replied-end.ensures
 
 pub returns-clause-cause : goal.returns-clause-cause

@@ -4,7 +4,7 @@ use Rattle.meta_log.specs.Prelude.{width_of}
 use Rattle.read_facts.specs.Prelude.{IsHeldAt}
 use Rattle.ordered_lists.specs.Lists.{ListsAll}
 use Rattle.findings.specs.Findings.{PageSum, ComesBefore}
-use Rattle.fsck_check.specs.Sums.{AreSums}
+use Rattle.fsck_check.specs.Sums.{FindsBadSums}
 use Rattle.fsck_check.proofs.Pages.{unit_sum}
 use Rattle.fsck_check.proofs.Rows.{InRowsTo}
 use Rattle.fsck_check.proofs.sums.bad_sums.Given as goal
@@ -19,5 +19,5 @@ invariant-loop-key g l = record {
   later : g.D.Device.faults l.initial.dev ≤ g.D.Device.faults l.dev;
   pages : List PageSum;
   lists : ListsAll ComesBefore (InRowsTo (width_of l.fn.sup) (rows_from_to l.fn.rows.rows [] None) at) pages;
-  sums : AreSums (IsHeldAt (g.D.Device.disk l.initial.dev)) (map unit_sum pages) l.found;
+  sums : FindsBadSums (IsHeldAt (g.D.Device.disk l.initial.dev)) (map unit_sum pages) l.found;
 }

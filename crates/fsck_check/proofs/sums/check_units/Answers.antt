@@ -1,7 +1,7 @@
 use Rattle.std.proofs.Common.{◌≡◌, ◌+◌, ◌≤◌, [], ◌++◌, List, ℕ, length, refl, sym, ap, subst, ◌∙◌, arith, append_assoc, append-nil, length-append, take-append-drop}
 use Rattle.block_device.specs.Prelude.{Disk}
 use Rattle.read_facts.specs.Prelude.{IsHeldAt}
-use Rattle.fsck_check.specs.Sums.{places_from, AddsSums}
+use Rattle.fsck_check.specs.Sums.{unit_sums_from, AddsSums}
 use Rattle.fsck_check.proofs.Adding.{adds_none, inside, piece_more, no_units}
 use Rattle.fsck_check.proofs.sums.check_units.Goals as goal
 
@@ -55,7 +55,7 @@ pieces-preserved g c =
       at = omega (arith, c.pieces.invariant.at, length-append done front);
       sums = piece_more (IsHeldAt d) c.args.unit c.pieces.at done front c.args.found.now c.pieces.found c.check_run.new.found c.pieces.invariant.at
           c.pieces.invariant.sums
-          (subst (λ (e : Disk). AddsSums (IsHeldAt e) (places_from c.pieces.at front) c.pieces.found c.check_run.new.found) c.pieces.invariant.same
+          (subst (λ (e : Disk). AddsSums (IsHeldAt e) (unit_sums_from c.pieces.at front) c.pieces.found c.check_run.new.found) c.pieces.invariant.same
           c.in_ok-check_run.ensures.sums);
     }
 
@@ -64,5 +64,5 @@ returns-clause-sums g c =
     let done = c.pieces.invariant.done in
     let none : c.pieces.left.now ≡ [] = no_units c.pieces.left.now (sym c.is_empty.ensures ∙ c.pieces-test.false) in
     let all : c.args.csums.now ≡ done = c.pieces.invariant.split ∙ ap (λ (l : List ℕ). done ++ l) none ∙ append-nil done in
-    subst (λ (l : List ℕ). AddsSums (IsHeldAt (g.D.Device.disk c.args.dev.now)) (places_from c.args.unit l) c.args.found.now c.pieces.found) (sym all)
+    subst (λ (l : List ℕ). AddsSums (IsHeldAt (g.D.Device.disk c.args.dev.now)) (unit_sums_from c.args.unit l) c.args.found.now c.pieces.found) (sym all)
     c.pieces.invariant.sums

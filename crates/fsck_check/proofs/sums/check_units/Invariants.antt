@@ -1,6 +1,6 @@
 use Rattle.std.proofs.Common.{◌≡◌, ◌+◌, ◌≤◌, List, ℕ, ◌++◌, length}
 use Rattle.read_facts.specs.Prelude.{IsHeldAt}
-use Rattle.fsck_check.specs.Sums.{places_from, AddsSums}
+use Rattle.fsck_check.specs.Sums.{unit_sums_from, AddsSums}
 use Rattle.fsck_check.proofs.sums.check_units.Given as goal
 
 abbrev pub invariant-pieces : goal.invariant-pieces
@@ -10,7 +10,7 @@ invariant-pieces g l = record {
   done : List ℕ;
   split : l.fn.csums ≡ done ++ l.left;
   at : l.at ≡ l.fn.unit + length done;
-  sums : AddsSums (IsHeldAt (g.D.Device.disk l.initial.dev)) (places_from l.fn.unit done) l.initial.found l.found;
+  sums : AddsSums (IsHeldAt (g.D.Device.disk l.initial.dev)) (unit_sums_from l.fn.unit done) l.initial.found l.found;
 }
 
 abbrev pub decreases-pieces : goal.decreases-pieces

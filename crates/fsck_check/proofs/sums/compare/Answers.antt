@@ -2,7 +2,7 @@ use Rattle.std.proofs.Common.{◌≡◌, ◌+◌, ◌<◌, [], ◌∷◌, length
 use Rattle.byte_maps.specs.Units.{unit_at}
 use Rattle.byte_maps.proofs.UnitLemmas.{length-unit_at}
 use Rattle.crc32c_csum.specs.Prelude.{crc32c}
-use Rattle.fsck_check.specs.Sums.{UnitSum, IsIn, AddsSums}
+use Rattle.fsck_check.specs.Sums.{UnitSum, IsUnitIn, AddsSums}
 use Rattle.fsck_check.proofs.Adding.{place_more, read_unit, adds_good, adds_bad}
 use Rattle.fsck_check.proofs.sums.compare.Goals.{then-sum-own+in_ok-push, else-sum-own}
 use Rattle.fsck_check.proofs.sums.compare.Goals as goal
@@ -13,7 +13,7 @@ loop-i-preserved c =
     let i = c.loop-i.i in
     let kept = c.args.kept.now in
     let bytes = c.args.bytes.now in
-    let held = IsIn at (length kept) bytes in
+    let held = IsUnitIn at (length kept) bytes in
     let p : UnitSum = (at + i, get_or kept i 0) in
     let lt : i < length kept = c.loop-i-test.true in
     let here = read_unit at (length kept) i bytes c.requires.whole lt in

@@ -2,7 +2,7 @@ use Rattle.std.proofs.Common.{◌≤◌, refl, sym, subst, ◌∙◌, arith}
 use Rattle.block_device.specs.Prelude.{Disk}
 use Rattle.meta_rows.specs.Prelude.{Rows}
 use Rattle.meta_log.specs.Prelude.{IsAtFront}
-use Rattle.log_replay.specs.Prelude.{left_of, ReadsOn, HasNoRecord, rows_so_far}
+use Rattle.log_replay.specs.Prelude.{bytes_not_passed, ReadsOn, HasNoRecord, rows_so_far}
 use Rattle.log_replay.proofs.HalfLemmas.{ReplayedHalf, half_begun, half_read, half_replayed, half_done, record_there}
 use Rattle.log_replay.proofs.replaying.replay.Goals as goal
 
@@ -23,8 +23,8 @@ skip-requires-clause-reader g c = c.in_ok-found.ensures.read.reader
 
 pub skip-requires-clause-there : goal.skip-requires-clause-there
 skip-requires-clause-there g c =
-    let found : IsAtFront (left_of c.record.new.self) c.records.number c.in-Some.found = rw c.in-Some.is at c.in_ok-found.ensures.found in
-    (record_there (left_of c.record.new.self) c.records.number c.in-Some.found found).0
+    let found : IsAtFront (bytes_not_passed c.record.new.self) c.records.number c.in-Some.found = rw c.in-Some.is at c.in_ok-found.ensures.found in
+    (record_there (bytes_not_passed c.record.new.self) c.records.number c.in-Some.found found).0
 
 pub records-preserved : goal.records-preserved
 records-preserved g c =
@@ -32,7 +32,7 @@ records-preserved g c =
     let d = disk c.args.dev.now in
     let was = c.records.invariant in
     let read : ReadsOn d c.records.half c.record.new.self = subst (λ (e : Disk). ReadsOn e c.records.half c.record.new.self) was.0 c.in_ok-found.ensures.read in
-    let found : IsAtFront (left_of c.record.new.self) c.records.number c.in-Some.found = rw c.in-Some.is at c.in_ok-found.ensures.found in (
+    let found : IsAtFront (bytes_not_passed c.record.new.self) c.records.number c.in-Some.found = rw c.in-Some.is at c.in_ok-found.ensures.found in (
       c.record.ensures.same ∙ was.0,
       omega (arith, was.1, c.record.ensures.faults),
       half_replayed d c.args.half.now c.args.first c.record.new.self c.skip.new.self (rows_so_far c.records.gathered) c.records.tail c.records.number c.in-Some.found
@@ -43,7 +43,7 @@ records-preserved g c =
 
 pub records-smaller : goal.records-smaller
 records-smaller g c =
-    let found : IsAtFront (left_of c.record.new.self) c.records.number c.in-Some.found = rw c.in-Some.is at c.in_ok-found.ensures.found in
+    let found : IsAtFront (bytes_not_passed c.record.new.self) c.records.number c.in-Some.found = rw c.in-Some.is at c.in_ok-found.ensures.found in
     let read = c.in_ok-found.ensures.read in
     let skipped = c.skip.ensures in
     omega (
@@ -54,7 +54,7 @@ records-smaller g c =
       skipped.end_is,
       skipped.reader.read,
       skipped.reader.more,
-      (record_there (left_of c.record.new.self) c.records.number c.in-Some.found found).1,
+      (record_there (bytes_not_passed c.record.new.self) c.records.number c.in-Some.found found).1,
     )
 
 pub returns-clause-replayed : goal.returns-clause-replayed

@@ -38,7 +38,7 @@ returns-then-is_intact c =
     } in
     let intact = c.if-is_intact.ensures.0 refl in
     let stands = are_parts c.args.bytes.now _ _ _ _ c.args.number _ _ _ _ _ _ _ read intact.0 c.in_ok-padding.ensures c.padding_of.ensures intact.1 in
-    behind_units _ _ _ _ _ _ stands c.units_of-units.ensures
+    behind_units _ _ _ _ _ _ stands c.units_of_body-units.ensures
 
 pub returns-else-is_intact : goal.returns-else-is_intact
 returns-else-is_intact c = λ count body rest parts.

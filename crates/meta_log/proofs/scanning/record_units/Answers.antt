@@ -13,4 +13,4 @@ returns c =
     let bytes = c.args.bytes.now in
     let size : length (take 20 bytes) ≡ 20 = length-take-le 20 bytes c.requires in
     let head = c.in_ok-head.head in
-    units_said bytes (take 20 bytes) c.args.number head.count head.size _ refl size c.in_ok-head.ensures (omega arith) c.units_of.ensures
+    units_said bytes (take 20 bytes) c.args.number head.count head.size _ refl size c.in_ok-head.ensures (omega arith) c.units_of_body.ensures

@@ -5,7 +5,7 @@ use Rattle.block_device.specs.Prelude.{Disk}
 use Rattle.unit_allocator.specs.Prelude.{Space}
 use Rattle.store_steps.specs.Prelude.{Found}
 use Rattle.log_replay.specs.Prelude.{IsLater}
-use Rattle.mount_replay.specs.Mounting.{IsOpenedOn, BeganToClear, LeftUnopened, StaysDurable, with_stale}
+use Rattle.mount_replay.specs.Mounting.{IsOpenedOn, BeganToClear, LeftUnopened, MountStaysDurable, with_stale}
 use Rattle.log_replay.proofs.ZeroLemmas.{later_same}
 use Rattle.mount_replay.proofs.MountLemmas.{stays_same, refused_fails}
 use Rattle.mount_replay.proofs.mounting.mount.Goals as goal
@@ -13,7 +13,7 @@ use Rattle.mount_replay.proofs.mounting.mount.Goals as goal
 pub returns-in-Err-clause-durable : goal.returns-in-Err-clause-durable
 returns-in-Err-clause-durable g c =
     let old = g.D.Device.disk c.args.dev in
-    subst (λ (d : Disk). StaysDurable old d) (sym c.find_store.ensures.same) (stays_same old c.find_store.ensures.sound)
+    subst (λ (d : Disk). MountStaysDurable old d) (sym c.find_store.ensures.same) (stays_same old c.find_store.ensures.sound)
 
 pub returns-in-Err-judge-clause-fails : goal.returns-in-Err-judge-clause-fails
 returns-in-Err-judge-clause-fails g c =
@@ -22,7 +22,7 @@ returns-in-Err-judge-clause-fails g c =
 pub returns-in-Err-judge-clause-durable : goal.returns-in-Err-judge-clause-durable
 returns-in-Err-judge-clause-durable g c =
     let old = g.D.Device.disk c.args.dev in
-    subst (λ (d : Disk). StaysDurable old d) (sym c.find_store.ensures.same) (stays_same old c.find_store.ensures.sound)
+    subst (λ (d : Disk). MountStaysDurable old d) (sym c.find_store.ensures.same) (stays_same old c.find_store.ensures.sound)
 
 pub returns-in-Err-judge-clause-back : goal.returns-in-Err-judge-clause-back
 returns-in-Err-judge-clause-back g c =
@@ -37,7 +37,7 @@ returns-in_default-clause-back g c =
 pub returns-in_default-clause-durable : goal.returns-in_default-clause-durable
 returns-in_default-clause-durable g c =
     let old = g.D.Device.disk c.args.dev in
-    subst (λ (d : Disk). StaysDurable old d) (sym c.find_store.ensures.same) (stays_same old c.find_store.ensures.sound)
+    subst (λ (d : Disk). MountStaysDurable old d) (sym c.find_store.ensures.same) (stays_same old c.find_store.ensures.sound)
 
 pub returns-clause-writes : goal.returns-clause-writes
 returns-clause-writes g c =
@@ -64,10 +64,10 @@ returns-in-Err-other_runs-clause-back g c =
 pub returns-in-Err-other_runs-clause-durable : goal.returns-in-Err-other_runs-clause-durable
 returns-in-Err-other_runs-clause-durable g c =
     let old = g.D.Device.disk c.args.dev in
-    subst (λ (d : Disk). StaysDurable old d) (sym (c.other_runs.ensures.same ∙ c.find_store.ensures.same)) (stays_same old c.find_store.ensures.sound)
+    subst (λ (d : Disk). MountStaysDurable old d) (sym (c.other_runs.ensures.same ∙ c.find_store.ensures.same)) (stays_same old c.find_store.ensures.sound)
 
 pub returns-clause-durable : goal.returns-clause-durable
 returns-clause-durable g c =
     let disk = g.D.Device.disk in
-    subst (λ (d : Disk). MatchResult c.open_on.result (λ k. StaysDurable d (disk k.device)) (λ e. StaysDurable d (disk e.1)))
+    subst (λ (d : Disk). MatchResult c.open_on.result (λ k. MountStaysDurable d (disk k.device)) (λ e. MountStaysDurable d (disk e.1)))
     (c.other_runs.ensures.same ∙ c.find_store.ensures.same) c.open_on.ensures.durable

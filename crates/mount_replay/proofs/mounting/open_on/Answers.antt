@@ -6,7 +6,7 @@ use Rattle.run_facts.specs.Prelude.{IsKept}
 use Rattle.crash_facts.specs.Store.{KeepsDurable}
 use Rattle.store_kernel.specs.Seen.{found_of}
 use Rattle.log_replay.specs.Prelude.{as_found}
-use Rattle.mount_replay.specs.Mounting.{IsOpenedOn, StaysDurable, with_stale}
+use Rattle.mount_replay.specs.Mounting.{IsOpenedOn, MountStaysDurable, with_stale}
 use Rattle.mount_replay.proofs.MountLemmas.{stays_begun, opened_durable, opened_kept, opened_on}
 use Rattle.mount_replay.proofs.mounting.open_on.Goals as goal
 
@@ -64,6 +64,6 @@ returns-clause-durable g c =
     let disk = g.D.Device.disk in
     let old = disk c.args.dev in
     let now = disk c.clear_log.new.dev in
-    subst (λ (d : Disk). StaysDurable old d) (sym (ap disk c.open.ensures.device))
+    subst (λ (d : Disk). MountStaysDurable old d) (sym (ap disk c.open.ensures.device))
     (stays_begun c.args.found old c.requires.sound c.requires.found c.requires.judged.good c.args.stale.items c.requires.stale now
     (c.in-Ok.ensures.only c.requires.found.half c.requires.found.stale))

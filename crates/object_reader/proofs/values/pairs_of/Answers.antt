@@ -10,15 +10,15 @@ use Rattle.object_reader.proofs.values.pairs_of.Goals as goal
 
 pub values_between-requires : goal.values_between-requires
 values_between-requires c =
-    (pairs_in c.args.rows.now.rows c.args.coll.now c.args.object.now c.requires c.coll_name_is_one.ensures c.name_is_one.ensures c.in_ok-first.first c.in_ok-end.end
-    c.in_ok-first.ensures c.in_ok-end.ensures).are_named
+    (pairs_in c.args.rows.now.rows c.args.coll.now c.args.object.now c.requires c.pairs_first.ensures.names.0 c.pairs_first.ensures.names.1 c.in_ok-first.first c.in_ok-end.end
+    c.in_ok-first.ensures.key c.in_ok-end.ensures).are_named
 
 pub returns : goal.returns
 returns c =
     let rows = c.args.rows.now.rows in
     let first = c.in_ok-first.first in
     let values : List ValueView = map (value_behind (length first)) (rows_from_to rows first (Some c.in_ok-end.end)) in
-    let says = pairs_in rows c.args.coll.now c.args.object.now c.requires c.coll_name_is_one.ensures c.name_is_one.ensures first c.in_ok-end.end
-    c.in_ok-first.ensures c.in_ok-end.ensures in
+    let says = pairs_in rows c.args.coll.now c.args.object.now c.requires c.pairs_first.ensures.names.0 c.pairs_first.ensures.names.1 first c.in_ok-end.end
+    c.in_ok-first.ensures.key c.in_ok-end.ensures in
     IfOk-weaker c.values_between.result (λ found. found ≡ values) (AreValues (omap_key c.args.coll.now c.args.object.now) rows)
     (λ found is. subst (AreValues (omap_key c.args.coll.now c.args.object.now) rows) (sym is) says.values) c.values_between.ensures

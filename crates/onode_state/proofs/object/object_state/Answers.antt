@@ -15,13 +15,13 @@ size_in-requires c =
     let object = c.args.object.now in
     let at = c.loop-key.invariant.at in
     let x = c.in-Some.field-0.now in
-    let on = next_on c.args.width rows coll object c.coll_name_is_one.ensures c.name_is_one.ensures c.requires at x c.next.new.self
+    let on = next_on c.args.width rows coll object c.onode_key.ensures.names.0 c.onode_key.ensures.names.1 c.requires at x c.next.new.self
     (sym c.loop-key.invariant.left ∙ c.in-Some.ensures.steps) in
     let fronted : x.0 ≡ onode_key coll object ++ c.in-Some-empty.field-0.now = sym c.as_slice-in-loop-key.ensures
     ∙ strip_prefix_is Decides-eqb c.as_slice-in-loop-key.result.now c.as_slice-in-loop-key-2.result.now (Some c.in-Some-empty.field-0) c.in-Some-empty.ensures.cases
     ∙ ap (λ k. k ++ c.in-Some-empty.field-0.now) (c.as_slice-in-loop-key-2.ensures ∙ c.in_ok-onode.ensures.key) in
-    let key = its_onode c.args.width rows coll object c.coll_name_is_one.ensures c.name_is_one.ensures c.requires x c.in-Some-empty.field-0.now c.in-Some-empty.len_below fronted in
-    value_is_onode c.args.width rows coll object c.coll_name_is_one.ensures c.name_is_one.ensures c.requires x c.as_slice-in-Some-empty.result.now on.0 key c.as_slice-in-Some-empty.ensures
+    let key = its_onode c.args.width rows coll object c.onode_key.ensures.names.0 c.onode_key.ensures.names.1 c.requires x c.in-Some-empty.field-0.now c.in-Some-empty.len_below fronted in
+    value_is_onode c.args.width rows coll object c.onode_key.ensures.names.0 c.onode_key.ensures.names.1 c.requires x c.as_slice-in-Some-empty.result.now on.0 key c.as_slice-in-Some-empty.ensures
 
 pub loop-key-preserved-then-strip_prefix-lt1 : goal.loop-key-preserved-then-strip_prefix-lt1
 loop-key-preserved-then-strip_prefix-lt1 c =
@@ -30,23 +30,23 @@ loop-key-preserved-then-strip_prefix-lt1 c =
     let object = c.args.object.now in
     let at = c.loop-key.invariant.at in
     let x = c.in-Some.field-0.now in
-    let on = next_on c.args.width rows coll object c.coll_name_is_one.ensures c.name_is_one.ensures c.requires at x c.next.new.self
+    let on = next_on c.args.width rows coll object c.onode_key.ensures.names.0 c.onode_key.ensures.names.1 c.requires at x c.next.new.self
     (sym c.loop-key.invariant.left ∙ c.in-Some.ensures.steps) in
     let fronted : x.0 ≡ onode_key coll object ++ c.in-Some-empty.field-0.now = sym c.as_slice-in-loop-key.ensures
     ∙ strip_prefix_is Decides-eqb c.as_slice-in-loop-key.result.now c.as_slice-in-loop-key-2.result.now (Some c.in-Some-empty.field-0) c.in-Some-empty.ensures.cases
     ∙ ap (λ k. k ++ c.in-Some-empty.field-0.now) (c.as_slice-in-loop-key-2.ensures ∙ c.in_ok-onode.ensures.key) in
-    let key = its_onode c.args.width rows coll object c.coll_name_is_one.ensures c.name_is_one.ensures c.requires x c.in-Some-empty.field-0.now c.in-Some-empty.len_below fronted in
-    let more = left_more (onwards c.args.width rows coll object c.coll_name_is_one.ensures c.name_is_one.ensures c.requires) at x c.next.new.self (sym c.loop-key.invariant.left ∙ c.in-Some.ensures.steps) in
-    let taken : take (at + 1) (onwards c.args.width rows coll object c.coll_name_is_one.ensures c.name_is_one.ensures c.requires) ≡ take at (onwards c.args.width rows coll object c.coll_name_is_one.ensures c.name_is_one.ensures c.requires) ++ x ∷ [] =
-    take_more (onwards c.args.width rows coll object c.coll_name_is_one.ensures c.name_is_one.ensures c.requires) at x more.0 ∙ ap (λ y. take at (onwards c.args.width rows coll object c.coll_name_is_one.ensures c.name_is_one.ensures c.requires) ++ y ∷ []) (sym more.1) in
-    let size = size_is_read c.args.width rows coll object c.coll_name_is_one.ensures c.name_is_one.ensures c.requires x c.as_slice-in-Some-empty.result.now c.size_in.result on.0 key c.as_slice-in-Some-empty.ensures c.size_in.ensures in
+    let key = its_onode c.args.width rows coll object c.onode_key.ensures.names.0 c.onode_key.ensures.names.1 c.requires x c.in-Some-empty.field-0.now c.in-Some-empty.len_below fronted in
+    let more = left_more (onwards c.args.width rows coll object c.onode_key.ensures.names.0 c.onode_key.ensures.names.1 c.requires) at x c.next.new.self (sym c.loop-key.invariant.left ∙ c.in-Some.ensures.steps) in
+    let taken : take (at + 1) (onwards c.args.width rows coll object c.onode_key.ensures.names.0 c.onode_key.ensures.names.1 c.requires) ≡ take at (onwards c.args.width rows coll object c.onode_key.ensures.names.0 c.onode_key.ensures.names.1 c.requires) ++ x ∷ [] =
+    take_more (onwards c.args.width rows coll object c.onode_key.ensures.names.0 c.onode_key.ensures.names.1 c.requires) at x more.0 ∙ ap (λ y. take at (onwards c.args.width rows coll object c.onode_key.ensures.names.0 c.onode_key.ensures.names.1 c.requires) ++ y ∷ []) (sym more.1) in
+    let size = size_is_read c.args.width rows coll object c.onode_key.ensures.names.0 c.onode_key.ensures.names.1 c.requires x c.as_slice-in-Some-empty.result.now c.size_in.result on.0 key c.as_slice-in-Some-empty.ensures c.size_in.ensures in
     record {
       can_next = tt;
       finite = tt;
       at = at + 1;
       left = more.2;
       seen = subst (λ es. IsSeen c.args.width rows coll object es (Some c.size_in.result) c.loop-key.shards.firsts.items c.loop-key.shards.pages) (sym taken)
-          (onode_seen c.args.width rows coll object c.coll_name_is_one.ensures c.name_is_one.ensures c.requires (take at (onwards c.args.width rows coll object c.coll_name_is_one.ensures c.name_is_one.ensures c.requires)) x
+          (onode_seen c.args.width rows coll object c.onode_key.ensures.names.0 c.onode_key.ensures.names.1 c.requires (take at (onwards c.args.width rows coll object c.onode_key.ensures.names.0 c.onode_key.ensures.names.1 c.requires)) x
           c.size_in.result c.loop-key.size c.loop-key.shards.firsts.items c.loop-key.shards.pages key size c.loop-key.invariant.seen);
     }
 
@@ -57,13 +57,13 @@ add-requires c =
     let object = c.args.object.now in
     let at = c.loop-key.invariant.at in
     let x = c.in-Some.field-0.now in
-    let on = next_on c.args.width rows coll object c.coll_name_is_one.ensures c.name_is_one.ensures c.requires at x c.next.new.self
+    let on = next_on c.args.width rows coll object c.onode_key.ensures.names.0 c.onode_key.ensures.names.1 c.requires at x c.next.new.self
     (sym c.loop-key.invariant.left ∙ c.in-Some.ensures.steps) in
     let fronted : x.0 ≡ onode_key coll object ++ c.in-Some-strip_prefix.field-0.now = sym c.as_slice-in-loop-key.ensures
     ∙ strip_prefix_is Decides-eqb c.as_slice-in-loop-key.result.now c.as_slice-in-loop-key-2.result.now (Some c.in-Some-strip_prefix.field-0) c.in-Some-strip_prefix.ensures.cases
     ∙ ap (λ k. k ++ c.in-Some-strip_prefix.field-0.now) (c.as_slice-in-loop-key-2.ensures ∙ c.in_ok-onode.ensures.key) in
-    let its = its_shard c.args.width rows coll object c.coll_name_is_one.ensures c.name_is_one.ensures c.requires x c.in-Some-strip_prefix.field-0.now on.0 c.in-Some-strip_prefix.len_at_least fronted in
-    value_is_shard c.args.width rows coll object c.coll_name_is_one.ensures c.name_is_one.ensures c.requires x c.as_slice-in-Some-strip_prefix.result.now on.0 its c.as_slice-in-Some-strip_prefix.ensures
+    let its = its_shard c.args.width rows coll object c.onode_key.ensures.names.0 c.onode_key.ensures.names.1 c.requires x c.in-Some-strip_prefix.field-0.now on.0 c.in-Some-strip_prefix.len_at_least fronted in
+    value_is_shard c.args.width rows coll object c.onode_key.ensures.names.0 c.onode_key.ensures.names.1 c.requires x c.as_slice-in-Some-strip_prefix.result.now on.0 its c.as_slice-in-Some-strip_prefix.ensures
 
 pub loop-key-preserved : goal.loop-key-preserved
 loop-key-preserved c =
@@ -72,22 +72,22 @@ loop-key-preserved c =
     let object = c.args.object.now in
     let at = c.loop-key.invariant.at in
     let x = c.in-Some.field-0.now in
-    let on = next_on c.args.width rows coll object c.coll_name_is_one.ensures c.name_is_one.ensures c.requires at x c.next.new.self
+    let on = next_on c.args.width rows coll object c.onode_key.ensures.names.0 c.onode_key.ensures.names.1 c.requires at x c.next.new.self
     (sym c.loop-key.invariant.left ∙ c.in-Some.ensures.steps) in
     let fronted : x.0 ≡ onode_key coll object ++ c.in-Some-strip_prefix.field-0.now = sym c.as_slice-in-loop-key.ensures
     ∙ strip_prefix_is Decides-eqb c.as_slice-in-loop-key.result.now c.as_slice-in-loop-key-2.result.now (Some c.in-Some-strip_prefix.field-0) c.in-Some-strip_prefix.ensures.cases
     ∙ ap (λ k. k ++ c.in-Some-strip_prefix.field-0.now) (c.as_slice-in-loop-key-2.ensures ∙ c.in_ok-onode.ensures.key) in
-    let its = its_shard c.args.width rows coll object c.coll_name_is_one.ensures c.name_is_one.ensures c.requires x c.in-Some-strip_prefix.field-0.now on.0 c.in-Some-strip_prefix.len_at_least fronted in
-    let more = left_more (onwards c.args.width rows coll object c.coll_name_is_one.ensures c.name_is_one.ensures c.requires) at x c.next.new.self (sym c.loop-key.invariant.left ∙ c.in-Some.ensures.steps) in
-    let taken : take (at + 1) (onwards c.args.width rows coll object c.coll_name_is_one.ensures c.name_is_one.ensures c.requires) ≡ take at (onwards c.args.width rows coll object c.coll_name_is_one.ensures c.name_is_one.ensures c.requires) ++ x ∷ [] =
-    take_more (onwards c.args.width rows coll object c.coll_name_is_one.ensures c.name_is_one.ensures c.requires) at x more.0 ∙ ap (λ y. take at (onwards c.args.width rows coll object c.coll_name_is_one.ensures c.name_is_one.ensures c.requires) ++ y ∷ []) (sym more.1) in
+    let its = its_shard c.args.width rows coll object c.onode_key.ensures.names.0 c.onode_key.ensures.names.1 c.requires x c.in-Some-strip_prefix.field-0.now on.0 c.in-Some-strip_prefix.len_at_least fronted in
+    let more = left_more (onwards c.args.width rows coll object c.onode_key.ensures.names.0 c.onode_key.ensures.names.1 c.requires) at x c.next.new.self (sym c.loop-key.invariant.left ∙ c.in-Some.ensures.steps) in
+    let taken : take (at + 1) (onwards c.args.width rows coll object c.onode_key.ensures.names.0 c.onode_key.ensures.names.1 c.requires) ≡ take at (onwards c.args.width rows coll object c.onode_key.ensures.names.0 c.onode_key.ensures.names.1 c.requires) ++ x ∷ [] =
+    take_more (onwards c.args.width rows coll object c.onode_key.ensures.names.0 c.onode_key.ensures.names.1 c.requires) at x more.0 ∙ ap (λ y. take at (onwards c.args.width rows coll object c.onode_key.ensures.names.0 c.onode_key.ensures.names.1 c.requires) ++ y ∷ []) (sym more.1) in
     record {
       can_next = tt;
       finite = tt;
       at = at + 1;
       left = more.2;
       seen = subst (λ es. IsSeen c.args.width rows coll object es c.loop-key.size c.add.new.self.firsts.items c.add.new.self.pages) (sym taken)
-          (shard_seen c.args.width rows coll object c.coll_name_is_one.ensures c.name_is_one.ensures c.requires (take at (onwards c.args.width rows coll object c.coll_name_is_one.ensures c.name_is_one.ensures c.requires)) x
+          (shard_seen c.args.width rows coll object c.onode_key.ensures.names.0 c.onode_key.ensures.names.1 c.requires (take at (onwards c.args.width rows coll object c.onode_key.ensures.names.0 c.onode_key.ensures.names.1 c.requires)) x
           c.as_slice-in-Some-strip_prefix.result.now c.loop-key.size c.loop-key.shards.firsts.items c.add.new.self.firsts.items
           c.loop-key.shards.pages c.add.new.self.pages its c.as_slice-in-Some-strip_prefix.ensures c.in_ok-add-in-Some-strip_prefix.ensures
           c.loop-key.invariant.seen);
@@ -102,14 +102,14 @@ returns c =
     let size = c.loop-key.size in
     let firsts = c.loop-key.shards.firsts.items in
     let pages = c.loop-key.shards.pages in
-    let seen : IsSeen c.args.width rows coll object (onwards c.args.width rows coll object c.coll_name_is_one.ensures c.name_is_one.ensures c.requires) size firsts pages = elim c.match-next.branch [
-      | in-None w ↦ seen_all c.args.width rows coll object c.coll_name_is_one.ensures c.name_is_one.ensures c.requires at size firsts pages
-          (left_none (onwards c.args.width rows coll object c.coll_name_is_one.ensures c.name_is_one.ensures c.requires) at (sym c.loop-key.invariant.left ∙ w.in-None.ensures.steps.0)) c.loop-key.invariant.seen
+    let seen : IsSeen c.args.width rows coll object (onwards c.args.width rows coll object c.onode_key.ensures.names.0 c.onode_key.ensures.names.1 c.requires) size firsts pages = elim c.match-next.branch [
+      | in-None w ↦ seen_all c.args.width rows coll object c.onode_key.ensures.names.0 c.onode_key.ensures.names.1 c.requires at size firsts pages
+          (left_none (onwards c.args.width rows coll object c.onode_key.ensures.names.0 c.onode_key.ensures.names.1 c.requires) at (sym c.loop-key.invariant.left ∙ w.in-None.ensures.steps.0)) c.loop-key.invariant.seen
       | in-Some+in-None-strip_prefix w ↦
           let apart = strip_prefix_is Decides-eqb w.as_slice-in-loop-key.result.now w.as_slice-in-loop-key-2.result.now None w.in-None-strip_prefix.ensures.cases in
           let whole = w.as_slice-in-loop-key-2.ensures ∙ c.in_ok-onode.ensures.key in
-          seen_past c.args.width rows coll object c.coll_name_is_one.ensures c.name_is_one.ensures c.requires at
+          seen_past c.args.width rows coll object c.onode_key.ensures.names.0 c.onode_key.ensures.names.1 c.requires at
           w.in-Some.field-0.now c.next.new.self size firsts pages (sym c.loop-key.invariant.left ∙ w.in-Some.ensures.steps)
           (λ rest is. apart rest (w.as_slice-in-loop-key.ensures ∙ is ∙ ap (λ k. k ++ rest) (sym whole))) c.loop-key.invariant.seen
     ] in
-    state_is c.args.width rows coll object c.coll_name_is_one.ensures c.name_is_one.ensures c.requires size firsts pages seen
+    state_is c.args.width rows coll object c.onode_key.ensures.names.0 c.onode_key.ensures.names.1 c.requires size firsts pages seen

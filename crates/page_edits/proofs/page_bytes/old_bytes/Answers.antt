@@ -19,5 +19,5 @@ returns-in-Some-clause-bytes c =
     let is : c.as_slice.result.now ≡ bytes_read c.args.read.now c.in-Read.unit = c.as_slice.ensures ∙ c.in-Some.ensures in
     let long : length c.as_slice.result.now ≡ 4096 = ap length is ∙ read_whole read unit c.requires in
     all_ok _ _ c.copy_of.result
-    (λ copy same held taking present. same ∙ whole_is now long ∙ is ∙ sym (ap (λ (o : OldBytes). old_bytes read held taking o) c.in-Read.is))
+    (λ copy same. same ∙ whole_is now long ∙ is ∙ sym (ap (λ (o : OldBytes). old_bytes read c.args.present o) c.in-Read.is))
     c.copy_of.ensures.bytes

@@ -1,6 +1,6 @@
 use Rattle.std.proofs.Common.{subst}
 use Rattle.unit_fields.specs.declared.width.Width.{Width}
-use Rattle.row_reading.specs.Reading.{row_of, SpellsRow, IsNoRow}
+use Rattle.row_reading.specs.Reading.{format_row, SpellsRow, IsNoRow}
 use Rattle.row_check.specs.Bad.{Knows, IsBelow}
 use Rattle.row_check.proofs.Ends.{low_pages}
 use Rattle.row_check.proofs.Walk.{passed_by, passed_row, judged_by}
@@ -8,7 +8,7 @@ use Rattle.row_check.proofs.bad.judge_row.Goals as goal
 
 pub is_in_place-requires : goal.is_in_place-requires
 is_in_place-requires c =
-    let row = row_of c.in-Some.row c.args.value.now in
+    let row = format_row c.in-Some.row c.args.value.now in
     let spells : SpellsRow c.width.result c.args.key.now c.args.value.now row = rw c.in-Some.is at c.in_ok-row.ensures in
     let is = subst (λ (w : Width). SpellsRow w c.args.key.now c.args.value.now row) c.width.ensures spells in
     record {
@@ -25,20 +25,20 @@ returns-in_default-clause-knows c =
 
 pub pass-requires : goal.pass-requires
 pass-requires c =
-    let row = row_of c.in-Some.row c.args.value.now in
+    let row = format_row c.in-Some.row c.args.value.now in
     let spells : SpellsRow c.width.result c.args.key.now c.args.value.now row = rw c.in-Some.is at c.in_ok-row.ensures in
     low_pages c.width.result c.in-Some.row c.args.value.now spells.fits
 
 pub returns-in-Ok-clause-judged : goal.returns-in-Ok-clause-judged
 returns-in-Ok-clause-judged c =
-    let row = row_of c.in-Some.row c.args.value.now in
+    let row = format_row c.in-Some.row c.args.value.now in
     let spells : SpellsRow c.width.result c.args.key.now c.args.value.now row = rw c.in-Some.is at c.in_ok-row.ensures in
     let is = subst (λ (w : Width). SpellsRow w c.args.key.now c.args.value.now row) c.width.ensures spells in
     judged_by c.args.sup.now c.args.rows.now.rows c.args.key.now c.args.value.now row c.in-Ok.fits is (c.in-Ok.ensures c.args.value.now)
 
 pub returns-in-Ok-clause-knows : goal.returns-in-Ok-clause-knows
 returns-in-Ok-clause-knows c =
-    let row = row_of c.in-Some.row c.args.value.now in
+    let row = format_row c.in-Some.row c.args.value.now in
     let spells : SpellsRow c.width.result c.args.key.now c.args.value.now row = rw c.in-Some.is at c.in_ok-row.ensures in
     let is = subst (λ (w : Width). SpellsRow w c.args.key.now c.args.value.now row) c.width.ensures spells in
     passed_row c.args.sup.now c.args.rows.now.rows c.args.key.now c.args.value.now c.requires.stands c.in-Some.row c.args.passed.now c.pass.new.self c.in-Ok.fits is

@@ -1,4 +1,4 @@
-use Rattle.row_check.specs.Least.{IsLeastOf, IsOutside, IsWrong}
+use Rattle.row_check.specs.Least.{IsLeastOf, IsOnlyIn, IsWrong}
 use Rattle.bitmap_freelist.specs.Bitmap.{Has}
 use Rattle.std.proofs.Common.{sym, subst}
 use Rattle.row_check.proofs.LeastUnits.{least_of_two}
@@ -10,4 +10,4 @@ returns c =
     let shared = c.args.owners.now.shared in
     let marked = c.args.marked.now in
     subst (IsLeastOf (IsWrong owned shared marked)) (sym c.lesser.ensures)
-    (least_of_two (IsOutside owned marked) (Has shared) c.least_outside.result c.least.result c.least_outside.ensures c.least.ensures)
+    (least_of_two (IsOnlyIn owned marked) (Has shared) c.least_outside.result c.least.result c.least_outside.ensures c.least.ensures)

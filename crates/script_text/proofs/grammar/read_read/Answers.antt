@@ -8,4 +8,4 @@ returns-in_err-coll c =
 
 pub returns : goal.returns
 returns c =
-    rw c.of.ensures (read_line c.args.rest.now c.in_ok-coll.coll c.in_ok-coll.object c.in_ok-coll.off c.in_ok-coll.len c.in_ok-coll.ensures)
+    rw c.read.ensures (read_line c.args.rest.now c.in_ok-coll.coll c.in_ok-coll.object c.in_ok-coll.off c.in_ok-coll.len c.in_ok-coll.ensures)

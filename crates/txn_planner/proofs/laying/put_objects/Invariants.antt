@@ -8,6 +8,6 @@ abbrev pub invariant-loop-name : goal.invariant-loop-name
 invariant-loop-name l = record {
   units : AllTakeBelow (length l.units) l.objects;
   contents : AllTakeBelow (length l.contents) l.objects;
-  changes : with_objects l.width l.coll l.units (held_in l.contents) (drop l.name-index l.name-items) l.objects l.changes
-      ≡ with_objects l.width l.coll l.units (held_in l.contents) (finite.keys l.fn.objects) l.fn.objects l.fn.changes;
+  changes : with_objects l.width l.rows.rows l.coll l.units (held_in l.contents) (drop l.name-index l.name-items) l.objects l.changes
+      ≡ with_objects l.width l.rows.rows l.coll l.units (held_in l.contents) (finite.keys l.fn.objects) l.fn.objects l.fn.changes;
 }

@@ -1,7 +1,7 @@
 use Rattle.std.proofs.Common.{refl, ap, ◌∙◌}
 use Rattle.std.specs.Prelude.{◌||◌, ◌++◌}
 use Rattle.std.specs.List.{flat_map}
-use Rattle.plan_drafts.specs.Prelude.{or_new, own_units}
+use Rattle.plan_drafts.specs.Prelude.{or_new, units_released}
 use Rattle.txn_planner.specs.Steps.{has_any}
 use Rattle.std.proofs.lemmas.Result.{on_ok_weaker}
 use Rattle.txn_planner.proofs.ObjectSteps.{dropped_back}
@@ -15,4 +15,4 @@ returns c =
     c.in_ok-touched.ensures.same (c.kept_pages-kept.ensures ∙ ap (λ x. (or_new x).kept) c.take.ensures.value)
     (λ i. record t { now = c.take.ensures.after i; left = (c.has_left.ensures ∙ ap (λ ps. t.left || has_any ps) c.pages.ensures) i })
     c.in_ok-put_object.ensures refl refl refl refl refl refl
-    (h ∙ ap (λ ps. c.put_object.new.self.left.items ++ flat_map (λ p. own_units p.1) ps) c.pages-2.ensures)) c.add_left.ensures
+    (h ∙ ap (λ ps. c.put_object.new.self.left.items ++ flat_map (λ p. units_released p.1) ps) c.pages-2.ensures)) c.add_left.ensures

@@ -1,6 +1,7 @@
 use Rattle.object_model.specs.declared.op.Op.TheVariants.{RmAttrs}
 use Rattle.row_changes.specs.Prelude.{DropsRange}
-use Rattle.value_changes.specs.Changed.{ChangesValues, values_first, values_end}
+use Rattle.value_changes.specs.Changed.{ChangesValues}
+use Rattle.object_rows.specs.Fronts.{values_first, values_end}
 use Rattle.value_changes.proofs.Named.{on_ok}
 use Rattle.value_changes.proofs.Gone.{attrs_gone}
 use Rattle.value_changes.proofs.value_ranges.rm_attrs.Goals as goal

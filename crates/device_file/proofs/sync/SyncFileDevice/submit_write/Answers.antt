@@ -2,7 +2,7 @@ use Rattle.std.proofs.Common.{◌≡◌, refl, arith, length, map, subst}
 use Rattle.block_device.specs.Prelude.{Submitted}
 use Rattle.block_device.specs.declared.event.Event.TheVariants.{Write}
 use Rattle.device_file.specs.FileDisk.{FileDisk, silent}
-use Rattle.device_file.specs.Sync.{flight}
+use Rattle.device_file.specs.Sync.{flight_seen}
 use Rattle.device_file.proofs.Tickets.{submitted, ascend_more, has_room}
 use Rattle.device_file.proofs.sync.SyncFileDevice.submit_write.Goals as goal
 
@@ -23,5 +23,5 @@ pub returns-clause-ok : goal.returns-clause-ok
 returns-clause-ok c =
     let m = c.self.inside in
     let size : c.len.result ≡ length c.args.bytes.items = omega arith in
-    let P : FileDisk → Type 0 = λ v. Submitted v.disk m.events (Write c.args.at c.args.bytes.items) (silent m.units (map flight c.push_back_reserved.new.self.items)) in
+    let P : FileDisk → Type 0 = λ v. Submitted v.disk m.events (Write c.args.at c.args.bytes.items) (silent m.units (map flight_seen c.push_back_reserved.new.self.items)) in
     subst P c.self.view_is (submitted m.units m.events m.pending.items _ _ (Write c.args.at c.args.bytes.items) c.self.invariant.ascend c.push_back_reserved.ensures.items (λ i. record { ticket = m.events; first = c.args.at; bytes = size i }))

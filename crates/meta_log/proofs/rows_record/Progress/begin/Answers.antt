@@ -21,14 +21,11 @@ size-size-requires c = omega (arith, rows_below c.args.rows.now.rows c.args.numb
 pub overflow_cast-size : goal.overflow_cast-size
 overflow_cast-size c = omega (arith, c.size-size.ensures, rows_below c.args.rows.now.rows c.args.number c.requires)
 
-pub overflow_add-size : goal.overflow_add-size
-overflow_add-size c = omega (arith, c.size-size.ensures, rows_below c.args.rows.now.rows c.args.number c.requires)
-
-pub units_of-requires : goal.units_of-requires
-units_of-requires c = omega (arith, c.size-size.ensures, rows_below c.args.rows.now.rows c.args.number c.requires)
+pub units_of_body-requires : goal.units_of_body-requires
+units_of_body-requires c = omega (arith, c.size-size.ensures, rows_below c.args.rows.now.rows c.args.number c.requires)
 
 pub overflow_cast-result : goal.overflow_cast-result
-overflow_cast-result c = omega (arith, c.units_of.ensures, c.size-size.ensures, rows_below c.args.rows.now.rows c.args.number c.requires)
+overflow_cast-result c = omega (arith, c.units_of_body.ensures, c.size-size.ensures, rows_below c.args.rows.now.rows c.args.number c.requires)
 
 pub returns-clause-record : goal.returns-clause-record
 returns-clause-record c =
@@ -41,8 +38,8 @@ returns-clause-record c =
       sealable = c.requires;
       count = c.len-count.ensures;
       size = size;
-      units = c.units_of.ensures ∙ ap units_for (ap (λ n. 24 + n) size ∙ sym (length-record_bytes number ops));
-      front = c.end.ensures rows ∙ sym c.size-size.ensures ∙ none_given c.units_of.result c.size-size.result c.units_of.ensures;
+      units = c.units_of_body.ensures ∙ ap units_for (ap (λ n. 24 + n) size ∙ sym (length-record_bytes number ops));
+      front = c.end.ensures rows ∙ sym c.size-size.ensures ∙ none_given c.units_of_body.result c.size-size.result c.units_of_body.ensures;
       summed = c.start.ensures rows ∙ none_summed c.size-size.result;
       digest = c.in_ok-digest.ensures
           ∙ ap₂ (λ n m. remainder all_ones (head_of number n m)) c.len-count.ensures size

@@ -1,5 +1,5 @@
 use Rattle.std.proofs.Common.{◌∙◌, ap, sym, subst}
-use Rattle.meta_rows.specs.Prelude.{key_of, AllBelow, value_left, joined, rows_of, held_rows, held_value, Holds, NotBelow}
+use Rattle.meta_rows.specs.Prelude.{key_of, AllBelow, value_left, joined, rows_of, held_rows, held_value, HoldsKey, NotBelow}
 use Rattle.meta_rows.proofs.FillLemmas.{changed_held, still_filling, all_under, comes_behind, under_later, awaits_left}
 use Rattle.meta_rows.proofs.filling.Filling.take.Goals as goal
 
@@ -7,7 +7,7 @@ pub returns-then-holds-clause-rows : goal.returns-then-holds-clause-rows
 returns-then-holds-clause-rows c =
     let old = c.args.self.now in
     ap rows_of c.change_held.ensures
-    ∙ changed_held c.args.op (joined old.all.list.items) old.held c.requires.awaits.0 (subst (λ k. Holds k old.held) c.key.ensures (c.holds.ensures.yes c.if-holds.true))
+    ∙ changed_held c.args.op (joined old.all.list.items) old.held c.requires.awaits.0 (subst (λ k. HoldsKey k old.held) c.key.ensures (c.holds.ensures.yes c.if-holds.true))
 
 pub returns-then-holds-clause-state : goal.returns-then-holds-clause-state
 returns-then-holds-clause-state c =

@@ -1,10 +1,10 @@
 use Rattle.store_kernel.proofs.Reading.{readable}
 use Rattle.store_kernel.proofs.kernel.Kernel.answered.Goals as goal
 
-pub answer-requires-clause-readable : goal.answer-requires-clause-readable
-answer-requires-clause-readable g c =
+pub answer-requires : goal.answer-requires
+answer-requires g c =
     let can = rw (← c.self.view_is) at c.requires.can_note in
-    rw (c.width-width.ensures) (readable _ _ _ c.self.invariant.kept can.up c.self.invariant.memory)
+    record { readable = rw (c.width-width.ensures) (readable _ _ _ c.self.invariant.kept can.up c.self.invariant.memory) }
 
 pub returns-clause-fault : goal.returns-clause-fault
 returns-clause-fault g c is =

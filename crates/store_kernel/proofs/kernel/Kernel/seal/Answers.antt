@@ -3,7 +3,7 @@ use Rattle.std.specs.Option.{option_map}
 use Rattle.meta_store.specs.Store.{Meta, with_begun}
 use Rattle.store_steps.specs.declared.context.Context.{Context}
 use Rattle.store_steps.specs.declared.step.Step.TheVariants.{Seal}
-use Rattle.kv_worker.specs.Batches.{CanSeal, ops_of}
+use Rattle.kv_worker.specs.Batches.{CanSeal, ops_of_batch}
 use Rattle.store_kernel.specs.declared.batch.OpenBatch.{OpenBatch}
 use Rattle.store_kernel.specs.declared.batch.Stage.{Stage}
 use Rattle.store_kernel.specs.declared.batch.Stage.TheVariants.{Taken}
@@ -29,7 +29,7 @@ invariant_of-self g c =
     let batch : k.batch ≡ Some c.in-Some.open = sym c.take.ensures.value ∙ c.in-Some.is in
     let taken : contexts_of c.in-Some.open.stage ≡ c.in-Taken.batch = ap contexts_of c.in-Taken.is in
     let does = seal_does _ _ k.meta c.seal.new.meta c.in-Some.open c.in-Ok.sealed (ap (option_map batch_of) batch) refl
-    (c.in-Ok.ensures.begun ∙ ap (λ (xs : List Context). with_begun k.meta (ops_of xs)) (sym taken)) (c.in-Ok.ensures.same ∙ sym taken) in
+    (c.in-Ok.ensures.begun ∙ ap (λ (xs : List Context). with_begun k.meta (ops_of_batch xs)) (sym taken)) (c.in-Ok.ensures.same ∙ sym taken) in
     subst (λ (o : Option OpenBatch). KnownOfKernel k.buffers o
     (state_of c.seal.new.meta k.submitted.rows k.contexts o k.switching k.flying.items k.down k.events k.space k.entries.items k.commits.items k.acked)
     (g.D.Device.disk k.device)) (sym c.replace.ensures.after)

@@ -1,5 +1,5 @@
 use Rattle.std.specs.Option.{option_copied}
-use Rattle.object_reader.proofs.NamesWalk.{fewer_left, found_next}
+use Rattle.object_rows.proofs.NamesWalk.{fewer_left, found_next}
 use Rattle.txn_planner.proofs.ObjectsThere.{next_looked}
 use Rattle.std.proofs.Common.{sym, ap, ◌∙◌}
 use Rattle.std.specs.FinMap as finite

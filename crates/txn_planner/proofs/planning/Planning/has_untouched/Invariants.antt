@@ -1,4 +1,4 @@
-use Rattle.object_reader.proofs.NamesWalk.{rows_left}
+use Rattle.object_rows.proofs.NamesWalk.{rows_left}
 use Rattle.txn_planner.proofs.ObjectsThere.{AreLooked}
 use Rattle.txn_planner.proofs.planning.Planning.has_untouched.Given as goal
 

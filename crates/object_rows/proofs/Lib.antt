@@ -1,0 +1,9 @@
+pub mod NamesRange
+pub mod NamesOrder
+pub mod NamesKeys
+pub mod NamesNext
+pub mod NamesWalk
+pub mod Lists
+pub mod GoodPages
+pub mod Shards
+pub mod ByShards

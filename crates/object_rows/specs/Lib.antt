@@ -1,0 +1,4 @@
+pub mod Fronts
+pub mod NextKeys
+pub mod Shards
+pub mod Stores

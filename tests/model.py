@@ -2,13 +2,13 @@
 """Runs random scripts of 1 to 8 clients, at times of 64, by the built program on real files, and compares what it says and leaves with a second store
 that is written here from the documents and shares nothing with the crates: each reply, the last line, `dump`, and the device, read byte
 by byte. The model draws from the seed what comes next, as the program does, so it knows in which order clients and steps come. The
-device must have exactly the slots, records and objects of the model, in the other half no unit but the stale ones may differ from zeros,
-each page must have its checksum, and the bitmap must have exactly the units that objects own. Most halves are so small that they are
-switched several times, and what a device had before it was made may be records of numbers that come next. One run in five is killed at a
-call for a job that is drawn, that of some step, of the opening or of a reply: then the device must be that of the model after some of the
-commits, from the first on, with all whose second flush had returned, and all that the replies call `ok`. Where strace can't trace a
-program these runs are whole ones, which is said. Before these rounds the program runs scripts whose replies and slots were reckoned by
-hand.
+device must have exactly the slots, rows and objects of the model, records of the same lengths, in the other half no unit but the stale ones
+may differ from zeros, each page must have its checksum, and the bitmap must have exactly the units that objects own. Most halves are so
+small that they are switched several times, and what a device had before it was made may be records of numbers that come next. Between runs
+shards may be cut otherwise, by hand. One run in five is killed at a call for a job that is drawn, that of some step, of the opening or of a
+reply: then the device must be that of the model after some of the commits, from the first on, with all whose second flush had returned, and
+all that the replies call `ok`. Where strace can't trace a program these runs are whole ones, which is said. Before these rounds the program
+runs scripts whose replies, slots and records were reckoned by hand.
 
 Usage: tests/model.py [ROUNDS] [SEED] [PROGRAM], or tests/model.py --self-test, which runs the model alone on the scripts that were reckoned
 by hand, and compares the events too. It ends with status 1 where something differs, and says in which round, or where no round switched
@@ -28,7 +28,7 @@ from dataclasses import dataclass, field, replace
 from functools import partial
 
 sys.dont_write_bytecode = True  # the module stands beside this file, in the checkout
-from log_record import AFTER_BYTE, crc32c, record_units, set_op
+from log_record import AFTER_BYTE, crc32c, record_units, set_op, slot_unit
 
 UNIT = 4096
 OBJECT_LIMIT = 134217728
@@ -37,6 +37,7 @@ OPERATION_LIMIT = 256
 VALUE_LIMIT = 65535
 ROW_UNITS = 128
 RUN_PAGES = 256
+SHARD_BYTES = 1200
 WRITE_UNITS = 64
 DEPTH = 64
 MOST_GROUPED = 64
@@ -52,23 +53,28 @@ def image(images, kept):
     return found
 
 
-CHECKSUMS = {}
+CHECKSUMS = {}  # of pages
 # What one zero byte behind makes of a checksum, what two, four, and so on up to a page.
 ZEROS_BEHIND = [[AFTER_BYTE[it & 255] ^ it >> 8 for it in (1 << bit for bit in range(32))]]
 for _ in range(12):
     ZEROS_BEHIND.append([image(ZEROS_BEHIND[-1], it) for it in ZEROS_BEHIND[-1]])
 
 
+def checksum_of_page(page):
+    """That of a page or of less. They are kept, since pages of the same byte come again and again."""
+    if page not in CHECKSUMS:
+        CHECKSUMS[page] = crc32c(page)
+    return CHECKSUMS[page]
+
+
 def checksum(data):
-    """CRC-32C, put together of those of the pages, which are kept, since pages of the same byte come again and again."""
+    """CRC-32C, put together of those of the pages."""
     found = 0
     for at in range(0, len(data), UNIT):
         page = bytes(data[at : at + UNIT])
-        if page not in CHECKSUMS:
-            CHECKSUMS[page] = crc32c(page)
         for power, images in enumerate(ZEROS_BEHIND):
             found = image(images, found) if len(page) >> power & 1 else found
-        found ^= CHECKSUMS[page]
+        found ^= checksum_of_page(page)
     return found
 
 
@@ -77,13 +83,15 @@ def checksum(data):
 
 @dataclass
 class Object:
-    """Its size in bytes, for each page that isn't a hole its unit and its bytes, its attributes, its header, and its omap."""
+    """Its size in bytes, for each page that isn't a hole its unit and its bytes, its attributes, its header, and its omap. Where its shards were
+    cut by another rule than a store's, the pages at which they begin."""
 
     size: int = 0
     pages: dict = field(default_factory=dict)
     attrs: dict = field(default_factory=dict)
     header: bytes = b""
     omap: dict = field(default_factory=dict)
+    cut: set = field(default=None, compare=False)
 
     def page(self, number):
         return self.pages[number][1] if number in self.pages else bytes(UNIT)
@@ -94,14 +102,27 @@ class Object:
         return held[first % UNIT : first % UNIT + max(end - first, 0)]
 
     def rows(self, coll, name):
-        """Its rows: keys and values. No checksum stands in its shard, since pages of the same unit have the same bytes."""
+        """Its rows: keys and values."""
         owner = coll + b"\0" + name + b"\0"
         rows = {b"O" + owner + b"o": struct.pack("<Q", self.size)}
         rows |= {b"A" + owner + attr: value for attr, value in self.attrs.items()}
         rows |= {b"M" + owner + b"." + key: value for key, value in self.omap.items()}
         rows |= {b"M" + owner + b"-": self.header} if self.header else {}
-        shard = b"".join(struct.pack("<IHBI", first, count, 0, unit) + bytes(4 * count) for first, count, unit in self.extents())
-        return rows | ({b"O" + owner + b"o" + struct.pack(">I", min(self.pages)) + b"x": shard} if self.pages else {})
+        return rows | {b"O" + owner + b"o" + struct.pack(">I", first) + b"x": value for first, value in self.shards()}
+
+    def shards(self):
+        """The first page and the value of each of its shards: from the front on, an extent joins the last shard where that has at most 1200
+        bytes then, and else begins the next. What was cut otherwise stays so until a page comes, goes or moves."""
+        shards = []
+        for first, count, unit in self.extents():
+            sums = [checksum_of_page(self.pages[page][1]) for page in range(first, first + count)]
+            extent = struct.pack(f"<IHBI{count}I", first, count, 0, unit, *sums)
+            joins = shards and (first not in self.cut if self.cut else len(shards[-1][1]) + len(extent) <= SHARD_BYTES)
+            if joins:
+                shards[-1] = shards[-1][0], shards[-1][1] + extent
+            else:
+                shards.append((first, extent))
+        return shards
 
     def units(self):
         return {unit for unit, _ in self.pages.values()}
@@ -168,14 +189,14 @@ def runs_of(units):
 
 class Store:
     """What a store has: collections of objects, free units, and how many bytes the operations have that set the rows of its objects. Of its
-    log: the slots, each as its epoch and its first number, the next record's number, how many units the records in the active half take,
-    and which of the other half may not be zero. Of a run: how many commits it has. Objects aren't changed, and the objects of a collection
-    are replaced as a whole, so that copies share them."""
+    log: the slots, each as its epoch and its first number, the next record's number, how many bytes each record in the active half has,
+    and which units of the other half may not be zero. Of a run: how many commits it has. Objects aren't changed, and the objects of a
+    collection are replaced as a whole, so that copies share them."""
 
     def __init__(self, units, half):
         self.units, self.half = units, half
         self.colls, self.free, self.row_bytes = {}, set(range(2 * half + 2, units)), 0
-        self.slots, self.number, self.tail, self.stale = [(0, 0), None], 0, 0, set()
+        self.slots, self.number, self.lengths, self.stale = [(0, 0), None], 0, [], set()
         self.accepted, self.room, self.commits = None, 0, 0
 
     def copy(self):
@@ -187,10 +208,18 @@ class Store:
     def epoch(self):
         return active(self.slots)[0]
 
-    def rows_units(self):
-        """How many units the record takes that sets each row. Without rows there is none."""
+    @property
+    def tail(self):
+        """How many units the records in the active half take."""
+        return sum(map(units_in, self.lengths))
+
+    def rows_length(self):
+        """How many bytes the record has that sets each row. Without rows there is none."""
         body = self.row_bytes + bits(set(range(2 * self.half + 2, self.units)) - self.free)
-        return units_in(24 + body) if body else 0
+        return 24 + body if body else 0
+
+    def rows_units(self):
+        return units_in(self.rows_length())
 
     def with_batch(self, transactions):
         """The store of a device with the record of these transactions behind the others."""
@@ -199,7 +228,8 @@ class Store:
             other.put(it.coll, it.objects)
             other.free = other.free - set(it.taken) | set(it.released)
             other.row_bytes += it.longer
-        other.tail, other.number, other.commits = self.tail + record_of(transactions), self.number + 1, self.commits + len(transactions)
+        other.lengths = [*self.lengths, length_of(transactions)]
+        other.number, other.commits = self.number + 1, self.commits + len(transactions)
         return other
 
     def mounted(self, device):
@@ -212,9 +242,13 @@ class Store:
         """The store of a device whose other half has the record of the rows, and is the active one."""
         other, epoch = self.copy(), self.epoch + 1
         other.slots[epoch % 2] = epoch, self.number
-        other.tail, other.stale = self.rows_units(), set(range(self.tail))
-        other.number += other.tail > 0
+        other.lengths, other.stale = list(filter(None, [self.rows_length()])), set(range(self.tail))
+        other.number += len(other.lengths)
         return other
+
+    def rows(self):
+        """Its rows, but for the bitmap."""
+        return rows_of(self.colls)
 
     def put(self, coll, objects):
         """Gives a collection these objects; with None it goes."""
@@ -247,6 +281,9 @@ class Store:
     def accept(self, coll, objects):
         """Gives a collection these objects, where a half has room for the difference of the rows. With None it goes."""
         before, after = self.colls.get(coll), objects
+        for name, it in (objects or {}).items():
+            if it.cut and it.pages != before[name].pages:
+                objects[name] = replace(it, cut=None)
         old, new = Rows(), Rows()
         old.add_other(coll, before, after)
         new.add_other(coll, after, before)
@@ -319,6 +356,14 @@ class Rows:
             if (others or {}).get(name) is not it:
                 self.rows |= it.rows(coll, name)
                 self.units |= it.units()
+
+
+def rows_of(colls):
+    """The rows of these collections and their objects."""
+    made = Rows()
+    for coll, objects in colls.items():
+        made.add_other(coll, objects, None)
+    return made.rows
 
 
 class Refused(Exception):
@@ -525,9 +570,14 @@ class Checkpoint:
     slot_flush: int = 0
 
 
+def length_of(transactions):
+    """How many bytes the record has of all their operations, one behind the other."""
+    return 24 + sum(it.body for it in transactions)
+
+
 def record_of(transactions):
-    """How many units the record has of all their operations, one behind the other."""
-    return units_in(24 + sum(it.body for it in transactions))
+    """How many units it has."""
+    return units_in(length_of(transactions))
 
 
 def pieces_of(units):
@@ -739,9 +789,9 @@ class Device:
         self.half = 0
         self.slots = [self.slot(0), self.slot(1)]
         expect(any(self.slots), "no slot is valid")
-        self.rows, self.tail, self.number = self.records(active(self.slots))
+        self.rows, self.lengths, self.number = self.records(active(self.slots))
         epoch = active(self.slots)[0]
-        self.behind, self.stale = self.not_zero(epoch) - set(range(self.tail)), self.not_zero(epoch + 1)
+        self.behind, self.stale = self.not_zero(epoch) - set(range(sum(map(units_in, self.lengths)))), self.not_zero(epoch + 1)
         self.colls, self.owned, self.marked, self.values = {}, set(), set(), []
         for key in sorted(self.rows):
             self.read_row(key, self.rows[key])
@@ -771,9 +821,9 @@ class Device:
         return {unit for unit in range(self.half) if self.at(self.first_unit(epoch) + unit) != bytes(UNIT)}
 
     def records(self, slot):
-        """The rows that the records of a slot make, how many units these take, and the number that would be next."""
+        """The rows that the records of a slot make, how many bytes each of these has, and the number that would be next."""
         epoch, number = slot
-        start, rows, tail = self.first_unit(epoch), {}, 0
+        start, rows, tail, lengths = self.first_unit(epoch), {}, 0, []
         while tail < self.half and self.at(start + tail)[:4] == b"BREC":
             length, found, count, kept = struct.unpack("<IQII", self.at(start + tail)[4:24])
             units = units_in(24 + length)
@@ -784,7 +834,8 @@ class Device:
             expect(not any(record[24 + length :]), f"bytes behind record {number}")
             expect(apply(rows, body) == count, f"the operations of record {number}")
             number, tail = number + 1, tail + units
-        return rows, tail, number
+            lengths.append(24 + length)
+        return rows, lengths, number
 
     def read_row(self, key, value):
         if key[:1] == b"C":
@@ -833,14 +884,19 @@ class Device:
                 owner.pages[first + page] = unit + page, held
             at += 11 + 4 * count
 
+    def expect_rows(self, wanted):
+        """But for the bitmap it has these rows."""
+        for key in sorted(wanted | self.rows):
+            expect(key[:1] == b"b" or self.rows.get(key) == wanted.get(key), f"the row of {key!r} is another one")
+
     def other_records(self):
         """The units that the records take of the slot that doesn't count, as far as they stand."""
         slot = self.slots[1 - active(self.slots)[0] % 2]
-        return set(range(self.records(slot)[1])) if slot else set()
+        return set(range(sum(map(units_in, self.records(slot)[1])))) if slot else set()
 
     def differences(self, store):
         """What isn't as this store has it. Of a stale unit anything may be left."""
-        parts = ["slots", "number", "tail", "colls"]
+        parts = ["slots", "number", "lengths", "colls"]
         return [part for part in parts if getattr(self, part) != getattr(store, part)] + ["stale"] * (not self.stale <= store.stale)
 
 
@@ -966,7 +1022,8 @@ def drawn_command(dice, most):
 
 def drawn_block(dice, most):
     """A transaction of several operations on few objects, so that they meet: what was put is changed and cleared, objects and collections go and
-    are made again. Few have more operations than may be, or just as many."""
+    are made again. Some put so many pages here and there that the object has several shards. Few have more operations than may be, or just
+    as many."""
     names = [drawn_name(dice) for _ in range(dice.choice([1, 1, 2, 3]))]
     kinds = dice.choice([CHANGES, CHANGES, ["write", "zero", "truncate", "write", "remove"], ["omapset", "omaprm", "omapclear", "setattr"]])
     operations = [("mkcoll",)] if dice.random() < 0.1 else []
@@ -976,6 +1033,8 @@ def drawn_block(dice, most):
         operations.append((kind, dice.choice(names), *drawn_words(dice, kind, most)))
     if dice.random() < 0.1:
         operations += [*(("remove", name) for name in names), ("rmcoll",), ("mkcoll",), ("touch", names[0])]
+    if dice.random() < 0.1:
+        operations += [("write", names[0], UNIT * number, "hex:5a") for number in dice.sample(range(400), dice.choice([20, 100, 200]))]
     if dice.random() < 0.02:
         operations += [("touch", names[0])] * (dice.choice([OPERATION_LIMIT, OPERATION_LIMIT + 1]) - len(operations))
     return "change", dice.choice(COLLS), operations
@@ -1071,6 +1130,7 @@ def killed_run(dice, program, seed, names, wanted, kernel):
     left = Device("device")
     store = next((it for it in kernel.states if not left.differences(it)), None)
     expect(store, f"the device of a run that was killed at {kind} is that of no front of the commits")
+    left.expect_rows(store.rows())
     expect(not any(acked[store.commits :]), f"the device has {store.commits} commits, and more were acknowledged")
     expect_same(printed(program, "fsck", "device"), ["findings 0"], "fsck")
     return store.mounted(left)
@@ -1081,6 +1141,7 @@ def whole_run(program, seed, names, wanted, kernel):
     expect_same(printed(program, "step", "device", "--seed", str(seed), *names), wanted, "step")
     left, store = Device("device"), kernel.last
     expect(not left.differences(store), f"the device has other {left.differences(store)}")
+    left.expect_rows(store.rows())
     expect(not left.behind, f"units behind the records aren't zero: {sorted(left.behind)[:5]}")
     lost = store.stale - left.stale - left.other_records()
     expect(not lost, f"units of the other half were cleared: {sorted(lost)[:5]}")
@@ -1098,15 +1159,51 @@ def lay_stale(dice, units):
             it.write(dice.choice(held) or record_units(max(unit - first, 0), [set_op(b"C9.0_head", b"")]))
 
 
+def cut_otherwise(dice, store):
+    """Lays all rows on the device as one record, with shards that are cut anywhere between extents, as another program may have. The store
+    that a mount finds then, or the same where there are no rows or a half has no room for these."""
+    other = store.copy()
+    for coll, objects in store.colls.items():
+        other.colls[coll] = {name: replace(it, cut=drawn_cut(dice, it)) for name, it in objects.items()}
+    rows = other.rows()
+    other.row_bytes = set_bytes(rows)
+    if not rows or other.rows_units() > other.half:
+        return store
+    owned = set(range(2 * store.half + 2, store.units)) - store.free
+    for row in {unit // ROW_UNITS for unit in owned}:
+        marks = sum(1 << unit % ROW_UNITS for unit in owned if unit // ROW_UNITS == row)
+        rows[b"b" + struct.pack(">I", row)] = marks.to_bytes(ROW_UNITS // 8, "little")
+    other.lengths, other.stale, slot = [other.rows_length()], set(), store.epoch % 2
+    other.slots[slot], other.number = (store.epoch, store.number), store.number + 1
+    record = record_units(store.number, [set_op(key, rows[key]) for key in sorted(rows)])
+    with open("device", "r+b") as it:
+        it.seek(UNIT * slot)
+        it.write(slot_unit(store.units, store.half, *other.slots[slot]))
+        it.seek(2 * UNIT)
+        halves = [record.ljust(UNIT * store.half, b"\0"), bytes(UNIT * store.half)]
+        it.write(halves[slot] + halves[1 - slot])
+    left = Device("device")
+    expect(not left.differences(other), f"the device was laid with other {left.differences(other)}")
+    return other
+
+
+def drawn_cut(dice, it):
+    """The pages at which shards begin, if that isn't as the store would cut them: each extent's, some, or the first alone."""
+    firsts = [first for first, _, _ in it.extents()]
+    some = dice.choice([firsts, dice.sample(firsts, len(firsts) // 3), []])
+    return {*firsts[:1], *some} if dice.random() < 0.8 else None
+
+
 def play(program, may_trace, seed):
     """A round: a new store, and some runs on it. How often the halves were switched."""
     dice = random.Random(seed)
     half = dice.choice([8, 8, 8, 9, 12, 40, 100, 200])
-    store = Store(2 * half + 2 + dice.choice([1, 2, 5, 20, 60, 300]), half)
+    store = Store(2 * half + 2 + dice.choice([1, 2, 5, 20, 60, 300, 600]), half)
     lay_stale(dice, store.units)
     printed(program, "mkfs", "device", "--half", str(half), "--units", str(store.units))
     store = store.mounted(Device("device"))
-    for _ in range(dice.choice([1, 2, 3])):
+    for at in range(dice.choice([1, 2, 3])):
+        store = cut_otherwise(dice, store) if at and dice.random() < 0.8 else store
         scripts = [drawn_script(dice) for _ in range(dice.choice([1, 1, 2, 3, dice.randrange(4, 9), 64 if dice.random() < 0.1 else 1]))]
         names = [f"script{number}" for number in range(len(scripts))]
         for name, (lines, _) in zip(names, scripts):
@@ -1334,7 +1431,50 @@ CHECKS += [
 ]
 
 
-def check(units, scripts, seed, wanted, half=8, held=0, events=None, slots=None, shown=list, flushes=None):
+# Shards. A page whose unit isn't next to those of the pages beside it is an extent of 15 bytes, and 80 of them are a shard of 1200. An operation
+# that sets a shard has 25 bytes besides the value, one that drops it 21, that of the onode 28, and one of a row of the bitmap 28; a record has 24
+# besides. Each of these stands in a transaction of its own, or 256 in one.
+def page(number):
+    return f"write 1.0_head a {UNIT * number} fill:{number % 251:02x}:4096"
+
+
+def blocks(lines):
+    return [["begin", *lines[at : at + OPERATION_LIMIT], "end"] for at in range(0, len(lines), OPERATION_LIMIT)]
+
+
+# Runs of 256 and 44 pages: shards of 1035 and 187 bytes, of which the second write sets the second.
+TWO_RUNS = [MKCOLL, "write 1.0_head a 0 fill:61:1048576", "write 1.0_head a 1048576 fill:62:180224"]
+# The second shard goes with its pages. A size that changes within a page, or without pages, is the onode alone.
+SIZES = [f"truncate 1.0_head a {size}" for size in (1048576, 1048577, OBJECT_LIMIT, 1048576)]
+# The last page of 300 comes before all others, so that four shards are dropped, three of 1200 bytes are set, and one of 900; or it is on the unit
+# behind the others, in the shard of 44; or it is page 293, in the last shard of four. Its unit is 429, and the first one 130.
+FALLING, RISING, SCATTERED = ([MKCOLL, *map(page, pages)] for pages in (range(299, -1, -1), range(300), [7 * at % 300 for at in range(300)]))
+# A page before a shard of 1200 bytes makes it two, with another first page, and once it is zeroed they are one again. One behind it makes a second
+# shard and leaves the first, and so does its leaving; and a page over the first one is of that shard.
+ONE_AND_TWO = [page(0), "zero 1.0_head a 0 4096", page(161), "zero 1.0_head a 659456 4096", page(1)]
+# Of 1024 pages on units from 130 on, the first, which goes to unit 1154, in another row of the bitmap; one of the second shard, which goes to
+# unit 130, in the row of its own; and one of the last shard of 64, which goes to unit 210.
+OVER_ONE = [page(0), page(160), page(2000)]
+# The units of a half and of the device, the transactions, the free units, and how many bytes the last records have.
+SHARDS = [
+    (64, 512, TWO_RUNS, 82, [40, 1196, 292]),
+    (64, 512, [*TWO_RUNS, *SIZES], 126, [292, 101, 52, 52, 52]),
+    (64, 512, FALLING, 82, [4736]),
+    (64, 512, RISING, 82, [292]),
+    (64, 512, SCATTERED, 82, [977]),
+    (64, 512, [MKCOLL, *blocks([page(2 * at + 1) for at in range(80)]), *ONE_AND_TWO], 302, [1305, 1338, 1319, 120, 73, 1277]),
+    (64, 1200, [MKCOLL, *blocks([page(2 * at) for at in range(1024)]), *OVER_ONE], 46, [1305, 1277, 1065]),
+    # A hundred shards, of pages on 62 rows of the bitmap.
+    (128, 8200, [MKCOLL, *blocks([page(2 * at) for at in range(7921)]), "remove 1.0_head a"], 7942, [3876]),
+]
+CHECKS += [
+    (units, [[it for txn in txns for it in (*([txn] if isinstance(txn, str) else txn), "wait")]], 1,
+     f"done accepted={len(txns)} refused=0 reads=0 commits={len(txns)} free={free}", half, 0, None, None, told_shortly, None, lengths)
+    for half, units, txns, free, lengths in SHARDS
+]
+
+
+def check(units, scripts, seed, wanted, half=8, held=0, events=None, slots=None, shown=list, flushes=None, lengths=()):
     store = Store(units, half)
     store.stale = set(range(half)) if held else set()
     found, kernel = run(store, [read_script(script) for script in scripts], seed)
@@ -1344,9 +1484,16 @@ def check(units, scripts, seed, wanted, half=8, held=0, events=None, slots=None,
     expect(events in (None, kernel.events), f"there are {kernel.events} events, not {events}")
     expect(flushes in (None, kernel.flushes), f"there are {kernel.flushes} flushes, not {flushes}")
     expect(slots in (None, last.slots), f"the slots are {last.slots}, not {slots}")
+    expect_lengths(last, lengths)
 
 
-def check_program(program, units, scripts, seed, wanted, half=8, held=0, _events=None, slots=None, shown=list, _flushes=None):
+def expect_lengths(it, lengths):
+    """The last records of a store or of a device have these lengths."""
+    found = it.lengths[len(it.lengths) - len(lengths) :]
+    expect(found == list(lengths), f"the last records have {found} bytes, not {lengths}")
+
+
+def check_program(program, units, scripts, seed, wanted, half=8, held=0, _events=None, slots=None, shown=list, _flushes=None, lengths=()):
     """The same of the program, on a new store. Of its events nothing is seen here."""
     names = [f"script{number}" for number in range(len(scripts))]
     for name, lines in zip(names, scripts):
@@ -1356,8 +1503,10 @@ def check_program(program, units, scripts, seed, wanted, half=8, held=0, _events
         it.write(bytes([held]) * UNIT * units)
     printed(program, "mkfs", "device", "--half", str(half), "--units", str(units))
     expect_same(shown(printed(program, "step", "device", "--seed", str(seed), *names)), wanted.split(", "), f"seed {seed}")
-    found = Device("device").slots
-    expect(slots in (None, found), f"the slots are {found}, not {slots}")
+    found = Device("device")
+    found.expect_rows(rows_of(found.colls))
+    expect(slots in (None, found.slots), f"the slots are {found.slots}, not {slots}")
+    expect_lengths(found, lengths)
 
 
 def all_pass(tries):

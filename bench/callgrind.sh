@@ -26,8 +26,8 @@ set_up() {
 count_of() {
   local once twice
   cat >"$made/lines"
-  sed -E '/^(write|zero)/a wait' "$made/lines" >"$made/all"
-  head -n $(($1 / 2)) "$made/lines" | sed -E '/^(write|zero)/a wait' >"$made/half"
+  sed -E '/^(write|zero|omapset)/a wait' "$made/lines" >"$made/all"
+  head -n $(($1 / 2)) "$made/lines" | sed -E '/^(write|zero|omapset)/a wait' >"$made/half"
   once=$(counted "$made/half")
   twice=$(counted "$made/all")
   echo $(((twice - once) / ($1 - $1 / 2)))

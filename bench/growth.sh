@@ -1,8 +1,9 @@
 #!/usr/bin/env bash
 # Tells what grows: the processor time of one operation, on a file in memory, beside stores of more and more objects whose names came
-# in falling, rising and scrambled order, and beside an object of more and more pages; and what opening each store takes. What
-# opening takes is taken off from the operations, each of which is waited for. The least of three runs. It says what is wanted of each, and
-# ends with status 1 where one is beyond that. Usage: bench/growth.sh [MOST OBJECTS] [FOLDER] [ANOTHER PROGRAM]
+# in falling, rising and scrambled order, and beside an object of more and more pages, one behind the other or scattered, with how many units of
+# the log a page over one of these takes; and what opening each store takes. What opening takes is taken off from the operations, each of which
+# is waited for. The least of three runs. It says what is wanted of each, and ends with status 1 where one is beyond that.
+# Usage: bench/growth.sh [MOST OBJECTS] [FOLDER] [ANOTHER PROGRAM]
 set -eu
 here=$(cd "$(dirname "${BASH_SOURCE[0]}")" && pwd)
 . "$here/about.sh"
@@ -29,6 +30,35 @@ names() {
   awk -v order="$1" -v n="$2" 'BEGIN {
     for (i = 0; i < n; i++) printf "%06d\n", 10 * (order == "rising" ? i : order == "falling" ? n - 1 - i : (i * 7919) % n)
   }'
+}
+
+# scattered PAGES: the lines that make an object of so many pages, none of which is on the unit behind that of the page before. They are blocks of
+# 250 lines, so that no part of 16000 lines ends in one.
+scattered() {
+  awk -v n="$1" 'BEGIN {
+    print "begin\nmkcoll 1.0_head"
+    for (i = 0; i < n; i++) {
+      if (i && (i + 1) % 248 == 0) print "end\nbegin"
+      printf "write 1.0_head a %d fill:%02x:4096\n", i * 7919 % n * 4096, i % 256
+    }
+    print "end"
+  }'
+}
+
+# log_units: how many units the records take of the first half of the device that the last run left.
+log_units() {
+  python3 - "$made/work" <<'END'
+import struct, sys
+
+with open(sys.argv[1], "rb") as it:
+    it.seek(8192)
+    units = 0
+    while (head := it.read(4096))[:4] == b"BREC":
+        more = (struct.unpack("<I", head[4:8])[0] + 24 - 1) // 4096
+        it.seek(4096 * more, 1)
+        units += 1 + more
+    print(units)
+END
 }
 
 # A script has at most 16384 commands, so a store of more objects is made by several.
@@ -68,7 +98,7 @@ for pages in 1 16 512 4096 32768; do
     done
   } | set_up
   opening=$(took "$made/empty")
-  # The record of a page has its shard, so that a log has room for few of a large one.
+  # A page of a large one takes longer, since its map is read whole.
   writes=$((pages > 512 ? 500 : 4000))
   for ((i = 0; i < writes; i++)); do printf 'write 1.0_head a %d fill:5b:4096\nwait\n' $((i * 7919 % pages * 4096)); done >"$made/script"
   write=$(ratio $((1000 * ($(took "$made/script") - opening))) "$writes")
@@ -86,4 +116,18 @@ for pages in 1 16 512 4096 32768; do
       ;;
   esac
 done
+printf '%-34s %12s %14s %12s\n' 'scattered pages of an object' 'opening, ms' 'a page, us' 'log, units'
+for pages in 64 1024 32768; do
+  scattered "$pages" | set_up
+  opening=$(took "$made/empty")
+  before=$(log_units)
+  for ((i = 0; i < 500; i++)); do printf 'write 1.0_head a %d fill:5b:4096\nwait\n' $((i * 131 % pages * 4096)); done >"$made/script"
+  write=$(ratio $((1000 * ($(took "$made/script") - opening))) 500)
+  units=$(ratio $(($(log_units) - before)) 500)
+  is_time "a page, of $pages scattered ones" "$write"
+  awk -v n="$pages" -v o="$opening" -v w="$write" -v u="$units" 'BEGIN { printf "%-34s %12d %14.1f %12.2f\n", n, o, w, u }'
+  wanted "units of the log for a page over one of $pages scattered ones" "$units" 'at most' 1
+  [ "$pages" != 64 ] || few=$write
+done
+wanted 'a page over one of 32768 scattered ones, against 64' "$(ratio "$write" "$few")" 'at most' 200
 ! grep -q BEYOND "$made/told"

@@ -50,7 +50,14 @@ done
   for ((i = 0; i < 512; i++)); do printf 'write 1.0_head a %d fill:%02x:4096\n' $((i * 211 % 512 * 4096)) $((i % 256)); done
 } | set_up 4096 12000
 for ((i = 0; i < 100; i++)); do printf 'write 1.0_head a %d fill:%02x:4096\n' $((i * 131 % 512 * 4096)) "$i"; done |
-  each 'a page over a page of 512 scattered ones' 139000 100
+  each 'a page over a page of 512 scattered ones' 120000 100
+
+{ echo 'mkcoll 1.0_head'; echo 'touch 1.0_head o'; } | set_up 4096 12000
+for ((i = 0; i < 40; i++)); do
+  printf 'omapset 1.0_head o'
+  for ((k = 0; k < 100; k++)); do printf ' k%06d fill:5a:20' $((100 * i + k)); done
+  echo
+done | each 'an omapset of 100 pairs' 800000 40
 
 set_up 4096 24000 <<<'mkcoll 1.0_head'
 for ((i = 0; i < 12; i++)); do printf 'write 1.0_head o%d 0 fill:%02x:1044480\n' "$i" "$i"; done |
@@ -61,9 +68,9 @@ for ((i = 0; i < 12; i++)); do printf 'write 1.0_head o%d 0 fill:%02x:1044480\n'
   for ((i = 0; i < 16; i++)); do printf 'write 1.0_head a %d fill:%02x:4096\n' $((i * 4096)) "$i"; done
   for ((i = 0; i < 128; i++)); do printf 'write 1.0_head b %d fill:%02x:1048576\n' $((i * 1048576)) "$i"; done
 } | sed 's/1048576$/1044480/' | set_up 4096 60000
-for ((i = 0; i < 200; i++)); do printf 'read 1.0_head a %d 4096\n' $((i % 16 * 4096)); done | each 'a read of 4 KiB of 16 pages' 42900 200
+for ((i = 0; i < 200; i++)); do printf 'read 1.0_head a %d 4096\n' $((i % 16 * 4096)); done | each 'a read of 4 KiB of 16 pages' 40000 200
 for ((i = 0; i < 200; i++)); do printf 'read 1.0_head b %d 4096\n' $((i * 131 % 128 * 1048576)); done |
-  each 'a read of 4 KiB of an object of 128 MiB' 44300 200
+  each 'a read of 4 KiB of an object of 128 MiB' 40000 200
 for ((i = 0; i < 12; i++)); do printf 'read 1.0_head b %d 1044480\n' $((i * 1048576)); done | each 'a read of 255 pages' 8930000 12
 printf 'sum 1.0_head b\nsum 1.0_head b\n' | each 'a sum of 128 MiB' 231000000 2
 

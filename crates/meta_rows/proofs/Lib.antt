@@ -15,4 +15,5 @@ pub mod OpReading
 pub mod SetLemmas
 pub mod FitLemmas
 pub mod CursorLemmas
+pub mod SkipLemmas
 pub mod OpCursorLemmas

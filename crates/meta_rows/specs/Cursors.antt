@@ -1,5 +1,5 @@
 -- Places in the spelling of rows, each row as the operation that sets it.
-use Rattle.std.specs.Prelude.{◌≡◌, ℕ, ◌+◌, List, [], ◌∷◌, ◌++◌, Option, Some, None, take, drop}
+use Rattle.std.specs.Prelude.{◌≡◌, ◌⊎◌, ℕ, ◌+◌, ◌<◌, List, [], ◌∷◌, ◌++◌, Option, Some, None, length, get_or, take, drop}
 use Rattle.meta_rows.specs.Rows.{Rows}
 use Rattle.meta_rows.specs.Chunks.{Entry}
 use Rattle.meta_rows.specs.Table.{rows_from_to, list_size}
@@ -27,6 +27,21 @@ pub record StandsIn (rows : List Entry) (key : List ℕ) (passed place : ℕ) : 
 abbrev pub TakesLast : List Entry → List Entry → Option Entry → Type 0
 TakesLast old new None = old ≡ []
 TakesLast old new (Some row) = old ≡ new ++ row ∷ []
+
+-- how many rows at the front may be left out: none, or all before one whose value is reached
+abbrev pub StopsAt : (List ℕ → Type 0) → List Entry → ℕ → Type 0
+StopsAt IsReached rows count = (count ≡ 0) ⊎ (count < length rows) × ((d : Entry) → IsReached (get_or rows count d).1)
+
+-- the first row's value is reached
+abbrev pub BeginsReached : (List ℕ → Type 0) → List Entry → Type 0
+BeginsReached IsReached [] = ⊥
+BeginsReached IsReached (row ∷ rows) = IsReached row.1
+
+-- rows at the front are left out, or none: those before one whose value is reached
+pub record SkipsTo (IsReached : List ℕ → Type 0) (old new : List Entry) : Type 0 where
+  pub front : List Entry
+  pub is : old ≡ front ++ new
+  pub stops : (front ≡ []) ⊎ BeginsReached IsReached new
 
 -- what a part has once these bytes have come: those behind the ones that it passes over, as far as they are wanted
 abbrev pub part_with : Part → List ℕ → List ℕ

@@ -7,5 +7,5 @@ pub use Rattle.meta_rows.specs.Filling.{Rises, held_rows, held_value, row_left, 
 pub use Rattle.meta_rows.specs.Merging.{FirstNotBelow, TakesBelow, ops_left, IsMerging, Goes}
 pub use Rattle.meta_rows.specs.Reading.{IsValue, BeginsWithNo, ReadsFront, SpellOps}
 pub use Rattle.meta_rows.specs.Sets.{sets_of, row_sets, RowsFit}
-pub use Rattle.meta_rows.specs.Cursors.{bytes_before, rows_on, StandsIn, TakesLast, part_with, HasCome}
+pub use Rattle.meta_rows.specs.Cursors.{bytes_before, rows_on, StandsIn, TakesLast, StopsAt, BeginsReached, SkipsTo, part_with, HasCome}
 pub use Rattle.meta_rows.specs.OpCursors.{ops_before}

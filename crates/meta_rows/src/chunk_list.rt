@@ -31,6 +31,18 @@ use byte_maps::Bytes;
 use std::alloc::{AllocError, Global};
 use std::cmp::Ordering;
 
+/// Where the next operation is looked for first. It may be any place.
+#[derive(Clone, Copy, Debug)]
+pub struct Near {
+    /// The chunk of the operation before.
+    pub chunk: usize,
+    /// The place behind its row there.
+    pub place: usize,
+}
+
+/// The front of the table.
+pub const FRONT: Near = Near { chunk: 0, place: 0 };
+
 /// Chunks in the order of their keys, none empty, and empty ones for those that are to be split.
 #[derive(Debug, Drop)]
 pub struct ChunkList {
@@ -38,8 +50,8 @@ pub struct ChunkList {
     pub list: Vec<Chunk>,
     /// Those that hold none.
     pub spare: Vec<Chunk>,
-    /// The chunk of the operation before and the place behind its row, or any numbers: the next one is looked for there first.
-    pub near: (usize, usize),
+    /// Where the next operation is looked for first.
+    pub near: Near,
 }
 
 /// The most rows that either part of a split chunk has.
@@ -147,17 +159,17 @@ fn is_place_of(chunks: &[Chunk], at: usize, place: Result<usize, usize>, key: &[
 }
 
 // The place of a key in a chunk, where that is next to a place in it and the key belongs there: two comparisons tell.
-fn place_beside(chunks: &[Chunk], near: (usize, usize), key: &[u8]) -> Option<Result<usize, usize>>
+fn place_beside(chunks: &[Chunk], near: Near, key: &[u8]) -> Option<Result<usize, usize>>
     requires none_empty { NoneEmpty chunks.now }
     requires order { T (map.is_sorted byte_order (joined chunks.now)) }
-    ensures belongs { IfSome result (λ _. BelongsIn key.now chunks.now near.0) }
-    ensures place { IfSome result (λ place. IsKeyPlace key.now (get_or chunks.now near.0 []) place) }
+    ensures belongs { IfSome result (λ _. BelongsIn key.now chunks.now near.chunk) }
+    ensures place { IfSome result (λ place. IsKeyPlace key.now (get_or chunks.now near.chunk []) place) }
 {
-    if chunks.len() <= near.0 {
+    if chunks.len() <= near.chunk {
         return None;
     }
-    let place = place_near(chunks[near.0].rows(), near.1, key)?;
-    if is_place_of(chunks, near.0, place, key) {
+    let place = place_near(chunks[near.chunk].rows(), near.place, key)?;
+    if is_place_of(chunks, near.chunk, place, key) {
         Some(place)
     } else {
         None
@@ -165,7 +177,7 @@ fn place_beside(chunks: &[Chunk], near: (usize, usize), key: &[u8]) -> Option<Re
 }
 
 // The chunk that a key belongs into and its place there. They are looked for next to a place first.
-fn place_in(chunks: &[Chunk], near: (usize, usize), key: &[u8]) -> (usize, Result<usize, usize>)
+fn place_in(chunks: &[Chunk], near: Near, key: &[u8]) -> (usize, Result<usize, usize>)
     requires some { 0 < length chunks.now }
     requires none_empty { NoneEmpty chunks.now }
     requires order { T (map.is_sorted byte_order (joined chunks.now)) }
@@ -173,9 +185,9 @@ fn place_in(chunks: &[Chunk], near: (usize, usize), key: &[u8]) -> (usize, Resul
     ensures place { IsKeyPlace key.now (get_or chunks.now result.0 []) result.1 }
 {
     if let Some(place) = place_beside(chunks, near, key) {
-        return (near.0, place);
+        return (near.chunk, place);
     }
-    let at = chunk_near(chunks, near.0, key);
+    let at = chunk_near(chunks, near.chunk, key);
     (at, place_for(chunks[at].rows(), key))
 }
 
@@ -291,7 +303,10 @@ impl ChunkList {
         ensures grows { GrowsBy result.0 (joined self.old.list.items) (joined self.new.list.items) }
     {
         let (at, place) = self.open(op.key());
-        self.near = (at, behind(place));
+        self.near = Near {
+            chunk: at,
+            place: behind(place),
+        };
         let had = self.len_at(at);
         let more = self.list[at].change(op, place);
         if self.list[at].is_empty() {

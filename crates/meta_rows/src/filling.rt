@@ -11,7 +11,7 @@ ghost use Rattle.meta_rows.specs.Chunks.{joined, IsChunked};
 ghost use Rattle.meta_rows.specs.Filling.{Rises, held_rows, held_value, row_left, rows_of, gap, HasSpace, IsShaped, IsAppended, IsFilling, HoldsKey, NotBelow, Awaits};
 
 use crate::chunk::{Chunk, row_size};
-use crate::chunk_list::ChunkList;
+use crate::chunk_list::{ChunkList, FRONT};
 use crate::row_change::left_by;
 use crate::row_op::RowOp;
 use byte_maps::{Bytes, byte_order};
@@ -115,7 +115,7 @@ impl Filling {
         let mut all = ChunkList {
             list: Vec::new(alloc),
             spare: Vec::new(alloc),
-            near: (0, 0),
+            near: FRONT,
         };
         all.reserve(alloc, rows / FILLED + 1)?;
         Ok(Filling {

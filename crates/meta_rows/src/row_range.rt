@@ -2,9 +2,10 @@
 //!
 //! `RowTable::range` gives an iterator that is seen as the list of the range. A loop over it says that what is left are the rows of the
 //! range from a place on (`left_more`, `left_none` of `RangeLemmas`).
-ghost use Rattle.std.specs.Prelude.{◌≡◌, [], ◌++◌, option_copied};
+ghost use Rattle.std.specs.Prelude.{◌≡◌, ◌↔◌, ◌<◌, [], ◌++◌, true, IfSome, IsTrue, length, get_or, option_copied};
+ghost use Rattle.std.specs.Fn.{FnReturnsAt};
 ghost use Rattle.meta_rows.specs.Chunks.{joined, NoneEmpty};
-ghost use Rattle.meta_rows.specs.Cursors.{TakesLast};
+ghost use Rattle.meta_rows.specs.Cursors.{TakesLast, StopsAt, BeginsReached, SkipsTo};
 
 use crate::chunk::Chunk;
 use byte_maps::Bytes;
@@ -33,6 +34,49 @@ impl<'a> Model for RowRange<'a> {
     ghost invariant = { λ a. NoneEmpty a.more.now };
 }
 
+// Whether there is a first row, and a test says of its value that it is reached.
+fn begins_reached<F: Fn(&Bytes) -> bool>(rows: &[(Bytes, Bytes)], is_reached: &F) -> bool
+    requires { F.IsAlwaysCallable is_reached.now }
+    ensures { IsTrue result → BeginsReached (λ value. FnReturnsAt F.Fn is_reached.now value true) rows.now }
+{
+    match rows.first() {
+        Some((_, value)) => is_reached(value),
+        None => false,
+    }
+}
+
+// How many rows are left out, so that the first one left is reached. It bisects, and leaves none out where those that are reached don't
+// stand in front of the others.
+fn stop_in<F: Fn(&Bytes) -> bool>(rows: &[(Bytes, Bytes)], is_reached: &F) -> usize
+    requires { F.IsAlwaysCallable is_reached.now }
+    ensures { StopsAt (λ value. FnReturnsAt F.Fn is_reached.now value true) rows.now result }
+{
+    let reached = rows.partition_point(|(_, value)| is_reached(value));
+    let last = reached.saturating_sub(1);
+    match rows.get(last) {
+        Some((_, value)) if is_reached(value) => last,
+        _ => 0,
+    }
+}
+
+// The last chunk whose first row is reached, found as above.
+fn chunk_reached<F: Fn(&Bytes) -> bool>(chunks: &[Chunk], is_reached: &F) -> Option<usize>
+    requires { F.IsAlwaysCallable is_reached.now }
+    ensures { IfSome result (λ at. (at < length chunks.now)
+        × BeginsReached (λ value. FnReturnsAt F.Fn is_reached.now value true) (get_or chunks.now at [])) }
+{
+    let reached = chunks.partition_point(|chunk| match chunk.rows().first() {
+        Some((_, value)) => is_reached(value),
+        None => false,
+    });
+    let last = reached.checked_sub(1)?;
+    if begins_reached(chunks.get(last)?.rows(), is_reached) {
+        Some(last)
+    } else {
+        None
+    }
+}
+
 impl<'a> RowRange<'a> {
     /// Rows, those of whole chunks, and rows behind them.
     pub fn new(
@@ -55,6 +99,35 @@ impl<'a> RowRange<'a> {
             more: self.more,
             last: self.last,
         }
+    }
+
+    // Goes on to the last piece whose first row is reached, if that isn't this one.
+    fn skip_pieces<F: Fn(&Bytes) -> bool>(&mut self, is_reached: &F)
+        requires { F.IsAlwaysCallable is_reached.now }
+        ensures { SkipsTo (λ value. FnReturnsAt F.Fn is_reached.now value true) self.old self.new }
+    {
+        if begins_reached(self.last, is_reached) {
+            self.here = self.last;
+            self.more = &[];
+            self.last = &[];
+            return;
+        }
+        if let Some(at) = chunk_reached(self.more, is_reached) {
+            self.here = self.more[at].rows();
+            self.more = &self.more[at + 1..];
+        }
+    }
+
+    /// Leaves out rows at the front, so that the first one left is the last one of which a test says that its value is reached. No row is
+    /// left out where none is reached. It bisects, where the rows that are reached stand in front of the others. (Ceph:
+    /// `seek_shard`, which bisects the shards of an extent map.)
+    pub fn skip_to<F: Fn(&Bytes) -> bool>(&mut self, is_reached: F)
+        requires { F.IsAlwaysCallable is_reached }
+        ensures { SkipsTo (λ value. FnReturnsAt F.Fn is_reached value true) self.old self.new }
+    {
+        self.skip_pieces(&is_reached);
+        let here = self.here;
+        self.here = &here[stop_in(here, &is_reached)..];
     }
 
     /// The last of the rows that are still to come, which doesn't come any more.

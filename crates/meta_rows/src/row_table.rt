@@ -22,7 +22,7 @@ ghost use Rattle.meta_rows.specs.Sets.{row_sets};
 ghost use Rattle.meta_rows.specs.Chunks.{joined, NoneEmpty, IsPlace, rows_before};
 
 use crate::chunk::{Chunk, start_of};
-use crate::chunk_list::{ChunkList, FEWEST, chunk_of};
+use crate::chunk_list::{ChunkList, FEWEST, FRONT, chunk_of};
 use crate::filling::Filling;
 use crate::merging::Merging;
 use crate::row_op::RowOp;
@@ -216,7 +216,7 @@ impl RowTable {
             all: ChunkList {
                 list: Vec::new(alloc),
                 spare: Vec::new(alloc),
-                near: (0, 0),
+                near: FRONT,
             },
             room: 0,
             size: 0,
@@ -234,7 +234,7 @@ impl RowTable {
             all: ChunkList {
                 list,
                 spare,
-                near: (0, 0),
+                near: FRONT,
             },
             room: 0,
             size: self.size,

@@ -14,7 +14,7 @@ use Rattle.meta_log.specs.declared.slot.Super.{Super}
 use Rattle.meta_log.specs.Prelude.{width_of}
 use Rattle.unit_fields.specs.Prelude.{IsName, IsCollName}
 use Rattle.unit_fields.specs.declared.width.Width.{Width}
-use Rattle.row_format.specs.Prelude.{object_key, onode_key, shard_key}
+use Rattle.row_format.specs.Prelude.{ExtentsAscend, object_key, onode_key, shard_key}
 use Rattle.row_reading.proofs.KeyOrder.{has_front, onode_before}
 use Rattle.onode_codec.specs.Reading.{SpellsOnode}
 use Rattle.page_lookup.specs.Prelude.{rows_read, HasUnit, FindPagesOf}
@@ -23,7 +23,7 @@ use Rattle.onode_state.specs.Objects.{IsObjectFound}
 use Rattle.onode_state.proofs.ShardRows as own
 use Rattle.onode_state.proofs.ShardRows.{IsShardEntry, In, KeysRise, filtered_all, in_filtered, filtered_rise, sorted_rise, not_less, then_less, both_so}
 use Rattle.onode_state.proofs.OnodeRows.{all_so, in_all, fails, filtered_twice, between, onode_outside, stands_at, onode_ends, value_is_onode, size_is_read}
-use Rattle.onode_state.proofs.FoundPages.{pages_found, units_fit}
+use Rattle.onode_state.proofs.FoundPages.{pages_ascend, pages_found, units_fit}
 
 abbrev Entry : Type 0
 Entry = List ℕ × List ℕ
@@ -125,6 +125,10 @@ module _ (w : Width) (rows : Rows) (c o : List ℕ) (coll : IsCollName c) (name 
 
     pub first_spells : (value : List ℕ) → x.0 ≡ onode_key c o → value ≡ x.1 → (size : ℕ) × SpellsOnode value size
     first_spells value is value_is = value_is_onode w rows c o coll name good x value first_own.stands is value_is
+
+    -- their extents ascend
+    pub rest_ascends : x.0 ≡ onode_key c o → ExtentsAscend (rows_read w rest)
+    rest_ascends is = subst (λ v. ExtentsAscend (rows_read v rest)) good.wide (pages_ascend rows c o rest coll name good.store (shards_behind is))
 
     pub is_found : (value : List ℕ) (size : ℕ) → x.0 ≡ onode_key c o → value ≡ x.1 → SpellsOnode value size → IsObjectFound w rows c o size (rows_read w rest)
     is_found value size is value_is spelled =

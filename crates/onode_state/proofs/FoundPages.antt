@@ -4,7 +4,7 @@ use Rattle.std.specs.List.{flat_map, AllByRecursion}
 use Rattle.meta_rows.specs.Prelude.{Rows, rows_from_to}
 use Rattle.unit_fields.specs.Prelude.{IsName, IsCollName}
 use Rattle.unit_fields.specs.declared.width.Width.{Width}
-use Rattle.row_format.specs.Prelude.{object_key, shard_key, Extent, own, extent_bytes, place_of, shard}
+use Rattle.row_format.specs.Prelude.{object_key, shard_key, Extent, ExtentsAscend, own, extent_bytes, place_of, shard}
 use Rattle.meta_log.specs.Prelude.{width_of}
 use Rattle.store_image.proofs.Prelude.{in_place}
 use Rattle.object_rows.specs.Shards.{AreShardsOf, extents_in}
@@ -45,23 +45,35 @@ read_shards w c o (x ∷ xs) fit =
     one_row w (shard_entry w c o x) (map (shard_entry w c o) xs)
     ∙ (λ i. read_spelled w (flat_map (extent_bytes w) x.1) x.1 (record { fit = fit.0.fit; spelled = refl }) i ++ read_shards w c o xs fit.1 i)
 
--- the pages of the object are found in the range of its shards
-pub pages_found : (rows : Rows) (c o : List ℕ) (entries : List Entry) → IsCollName c → IsName o → (store : AreRowsOfAStore rows)
-    → entries ≡ rows_from_to rows (shard_key c o 0) (Some (object_key 0x4f c o (0x70 ∷ [])))
-    → FindPagesOf (width_of store.sup) rows c o (rows_read (width_of store.sup) entries)
-pages_found rows c o entries coll name store is page place =
-    let all : AllByRecursion (IsShardEntry (width_of store.sup) c o) entries =
-    subst (AllByRecursion (IsShardEntry (width_of store.sup) c o)) (sym is)
-    (range_is_shards (width_of store.sup) c o coll name store.sup rows store.good refl) in
-    let has = shards_of (width_of store.sup) c o entries all in
-    let are : AreShardsOf (width_of store.sup) rows c o has.shards =
-    range_has_all (width_of store.sup) c o coll name store.sup rows store.good refl has.shards has.fit (sym is ∙ has.are) in
-    let found : place_found (rows_read (width_of store.sup) entries) page ≡ place_of (extents_in has.shards) page =
-    ap (λ (es : List Extent). place_found es page)
-    (ap (rows_read (width_of store.sup)) has.are ∙ read_shards (width_of store.sup) c o has.shards has.fit)
-    ∙ found_is (extents_in has.shards) page (by_shards_ascend store.sup rows c o store.good has.shards are) in
-    let by = by_shards_pages store.sup rows c o store.good has.shards are page place in
-    (λ get. by.0 (sym found ∙ get), λ at. found ∙ by.1 at)
+module _ (rows : Rows) (c o : List ℕ) (entries : List Entry) (coll : IsCollName c) (name : IsName o) (store : AreRowsOfAStore rows)
+    (is : entries ≡ rows_from_to rows (shard_key c o 0) (Some (object_key 0x4f c o (0x70 ∷ [])))) where
+  abbrev w : Width
+  w = width_of store.sup
+
+  has : HasEntries w c o entries
+  has = shards_of w c o entries
+      (subst (AllByRecursion (IsShardEntry w c o)) (sym is) (range_is_shards w c o coll name store.sup rows store.good refl))
+
+  are : AreShardsOf w rows c o has.shards
+  are = range_has_all w c o coll name store.sup rows store.good refl has.shards has.fit (sym is ∙ has.are)
+
+  read : rows_read w entries ≡ extents_in has.shards
+  read = ap (rows_read w) has.are ∙ read_shards w c o has.shards has.fit
+
+  shards_ascend : ExtentsAscend (extents_in has.shards)
+  shards_ascend = by_shards_ascend store.sup rows c o store.good has.shards are
+
+  -- the extents in the range of the object's shards ascend
+  pub pages_ascend : ExtentsAscend (rows_read (width_of store.sup) entries)
+  pages_ascend = subst ExtentsAscend (sym read) shards_ascend
+
+  -- its pages are found there
+  pub pages_found : FindPagesOf (width_of store.sup) rows c o (rows_read (width_of store.sup) entries)
+  pages_found page place =
+      let found : place_found (rows_read w entries) page ≡ place_of (extents_in has.shards) page =
+      ap (λ (es : List Extent). place_found es page) read ∙ found_is (extents_in has.shards) page shards_ascend in
+      let by = by_shards_pages store.sup rows c o store.good has.shards are page place in
+      (λ get. by.0 (sym found ∙ get), λ at. found ∙ by.1 at)
 
 -- their units are those of the store
 pub units_fit : (rows : Rows) (c o : List ℕ) (es : List Extent) → IsCollName c → IsName o → (store : AreRowsOfAStore rows)

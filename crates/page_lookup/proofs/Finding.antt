@@ -1,10 +1,10 @@
 -- Pages found among extents in their order.
-use Rattle.std.proofs.Common.{◌≡◌, inl, inr, ℕ, ◌-◌, ◌<◌, ◌≤◌, cond, List, [], ◌∷◌, ◌++◌, Option, Some, None, refl, sym, ◌∙◌, arith}
+use Rattle.std.proofs.Common.{◌≡◌, inl, inr, ℕ, ◌-◌, ◌<◌, ◌≤◌, cond, List, [], ◌∷◌, ◌++◌, Option, Some, None, refl, sym, ap, subst, ◌∙◌, arith, append_assoc}
 use Rattle.std.specs.Prelude.{nat_lt, nat_le, ◌&&◌}
 use Rattle.std.specs.List.{AllByRecursion}
 use Rattle.std.proofs.lemmas.Bool.{lt-ltb, le-ltb, lt-leb, le-leb, cases_lt, cond-true, cond-false, and_left, and_right, and_from}
 use Rattle.row_format.specs.Prelude.{Extent, Place, place_in, page_end, place_of, ExtentsAscend}
-use Rattle.page_lookup.specs.Prelude.{place_found, EndBehind, FindAlikeBefore}
+use Rattle.page_lookup.specs.Prelude.{place_found, EndBehind, LeavesOut, BeginsBy}
 
 -- what is looked for behind the first extent's first page
 abbrev from_first : Extent → List Extent → ℕ → Option Place
@@ -60,13 +60,73 @@ found_is (e ∷ es) page ascend = elim (cases_lt page e.first) [
 
 -- ---- extents left out
 
-pub alike_same : (page : ℕ) (es : List Extent) → FindAlikeBefore page es es
-alike_same page es = λ behind p le. refl
+-- none is
+pub leaves_none : (page : ℕ) (es : List Extent) → LeavesOut page es es
+leaves_none page es = record { front = []; is = refl; ends = tt }
+
+all_joined : (page : ℕ) (xs ys : List Extent) → AllByRecursion (λ e. page_end e ≤ page) xs → AllByRecursion (λ e. page_end e ≤ page) ys
+    → AllByRecursion (λ e. page_end e ≤ page) (xs ++ ys)
+all_joined page [] ys xall yall = yall
+all_joined page (x ∷ xs) ys xall yall = (xall.0, all_joined page xs ys xall.1 yall)
+
+-- more and more
+pub leaves_more : (page : ℕ) (a b c : List Extent) → LeavesOut page a b → LeavesOut page b c → LeavesOut page a c
+leaves_more page a b c one two = record {
+  front = one.front ++ two.front;
+  is = one.is ∙ ap (λ (l : List Extent). one.front ++ l) two.is ∙ sym (append_assoc one.front two.front c);
+  ends = all_joined page one.front two.front one.ends two.ends;
+}
+
+-- whatever stands behind
+pub leaves_before : (page : ℕ) (old new behind : List Extent) → LeavesOut page old new → LeavesOut page (old ++ behind) (new ++ behind)
+leaves_before page old new behind left = record {
+  front = left.front;
+  is = ap (λ (l : List Extent). l ++ behind) left.is ∙ append_assoc left.front new behind;
+  ends = left.ends;
+}
 
 -- one that ends in front of the page
-pub alike_less : (page : ℕ) (e : Extent) (es start : List Extent) → page_end e ≤ page → FindAlikeBefore page (e ∷ es) start
-    → FindAlikeBefore page es start
-alike_less page e es start ends alike = λ behind p le. sym (found_behind e (es ++ behind) p (omega (arith, ends, le))) ∙ alike behind p le
+pub leaves_one : (page : ℕ) (e : Extent) (es : List Extent) → page_end e ≤ page → LeavesOut page (e ∷ es) es
+leaves_one page e es ends = record { front = e ∷ []; is = refl; ends = (ends, tt) }
+
+later_ends : (from page : ℕ) → from ≤ page → (es : List Extent) → AllByRecursion (λ e. page_end e ≤ from) es → AllByRecursion (λ e. page_end e ≤ page) es
+later_ends from page le [] all = tt
+later_ends from page le (e ∷ es) all = (omega (arith, le, all.0), later_ends from page le es all.1)
+
+-- seen from a later page
+pub leaves_later : (from page : ℕ) (old new : List Extent) → from ≤ page → LeavesOut from old new → LeavesOut page old new
+leaves_later from page old new le left = record { front = left.front; is = left.is; ends = later_ends from page le left.front left.ends }
+
+behind_all : (page : ℕ) (front es : List Extent) → AllByRecursion (λ e. page_end e ≤ page) front → place_found (front ++ es) page ≡ place_found es page
+behind_all page [] es all = refl
+behind_all page (e ∷ front) es all = found_behind e (front ++ es) page all.0 ∙ behind_all page front es all.1
+
+-- the page is found among those that are left
+pub found_among : (page : ℕ) (old new : List Extent) → LeavesOut page old new → place_found new page ≡ place_found old page
+found_among page old new left = sym (ap (λ (es : List Extent). place_found es page) left.is ∙ behind_all page left.front new left.ends)
+
+-- those that are left ascend
+pub back_ascends : (front es : List Extent) → ExtentsAscend (front ++ es) → ExtentsAscend es
+back_ascends [] es ascend = ascend
+back_ascends (e ∷ front) es ascend = back_ascends front es ascend.1
+
+pub left_ascend : (page : ℕ) (old new : List Extent) → ExtentsAscend old → LeavesOut page old new → ExtentsAscend new
+left_ascend page old new ascend left = back_ascends left.front new (subst ExtentsAscend left.is ascend)
+
+at_most : (x : Extent) (page : ℕ) (front : List Extent) (e : Extent) (es : List Extent)
+    → AllByRecursion (λ later. page_end x ≤ later.first) (front ++ e ∷ es) → e.first ≤ page → page_end x ≤ page
+at_most x page [] e es all begins = omega (arith, all.0, begins)
+at_most x page (y ∷ front) e es all begins = at_most x page front e es all.1 begins
+
+ends_before : (page : ℕ) (front : List Extent) (e : Extent) (es : List Extent) → ExtentsAscend (front ++ e ∷ es) → e.first ≤ page
+    → AllByRecursion (λ x. page_end x ≤ page) front
+ends_before page [] e es ascend begins = tt
+ends_before page (x ∷ front) e es ascend begins = (at_most x page front e es ascend.0 begins, ends_before page front e es ascend.1 begins)
+
+-- those before one that begins with the page or before it
+pub leaves_before_begun : (page : ℕ) (front es : List Extent) → ExtentsAscend (front ++ es) → BeginsBy page es → LeavesOut page (front ++ es) es
+leaves_before_begun page front [] ascend begins = absurd begins
+leaves_before_begun page front (e ∷ es) ascend begins = record { front = front; is = refl; ends = ends_before page front e es ascend begins }
 
 -- where extents are left, the others don't matter
 pub found_at_front : (page : ℕ) (es behind : List Extent) → EndBehind page es → (es ≡ [] → ⊥) → place_found (es ++ behind) page ≡ place_found es page

@@ -7,10 +7,10 @@ use Rattle.unit_fields.specs.declared.width.Width.{Width}
 use Rattle.row_format.specs.Prelude.{Extent, own, page_end, private, place_in}
 use Rattle.std.proofs.lemmas.List.{drop-drop}
 use Rattle.page_lookup.specs.declared.shard.Head.{Head}
-use Rattle.page_lookup.specs.Prelude.{first_in, count_in, unit_in, csum_in, csums_in, size_in, extent_in, extents_read, place_found, EndBehind, FindAlikeBefore, HasUnit, IsHeadOf}
+use Rattle.page_lookup.specs.Prelude.{first_in, count_in, unit_in, csum_in, csums_in, size_in, extent_in, extents_read, place_found, EndBehind, LeavesOut, BeginsBy, HasUnit, IsHeadOf}
 use Rattle.row_format.proofs.Prelude.{bytes_less}
 use Rattle.page_lookup.proofs.Reading.{read_none, read_more, csum_of, length-csums_in}
-use Rattle.page_lookup.proofs.Finding.{found_before, found_in, alike_less}
+use Rattle.page_lookup.proofs.Finding.{found_before, found_in, leaves_one, leaves_more}
 
 -- ---- fields, one after the other
 
@@ -87,13 +87,17 @@ none_behind w bytes page none = subst (EndBehind page) (sym none) tt
 
 -- it ends in front of it
 pub left_out : (w : Width) (bytes left : List ℕ) (start : List Extent) (h : Head) (page : ℕ) → IsHeadOf w bytes h → h.first + h.count ≤ page
-    → left ≡ drop (11 + bytes_of w h.count) bytes → FindAlikeBefore page (extents_read w bytes) start
-    → FindAlikeBefore page (extents_read w left) start
-left_out w bytes left start h page is ends same alike =
+    → left ≡ drop (11 + bytes_of w h.count) bytes → LeavesOut page start (extents_read w bytes) → LeavesOut page start (extents_read w left)
+left_out w bytes left start h page is ends same front =
     let rest : left ≡ drop (size_in w bytes) bytes = same ∙ ap (λ (n : ℕ). drop (11 + bytes_of w n) bytes) is.count in
-    subst (λ (l : List ℕ). FindAlikeBefore page (extents_read w l) start) (sym rest)
-    (alike_less page (extent_in w bytes) (extents_read w (drop (size_in w bytes) bytes)) start (omega (arith, ends, end_in w bytes h is))
-    (subst (λ (es : List Extent). FindAlikeBefore page es start) (read_more w bytes is.whole) alike))
+    subst (λ (l : List ℕ). LeavesOut page start (extents_read w l)) (sym rest)
+    (leaves_more page start (extents_read w bytes) (extents_read w (drop (size_in w bytes) bytes)) front
+    (subst (λ (es : List Extent). LeavesOut page es (extents_read w (drop (size_in w bytes) bytes))) (sym (read_more w bytes is.whole))
+    (leaves_one page (extent_in w bytes) (extents_read w (drop (size_in w bytes) bytes)) (omega (arith, ends, end_in w bytes h is)))))
+
+-- it begins with the page or before it
+pub begins_in : (w : Width) (bytes : List ℕ) (h : Head) (page : ℕ) → IsHeadOf w bytes h → h.first ≤ page → BeginsBy page (extents_read w bytes)
+begins_in w bytes h page is le = subst (BeginsBy page) (sym (read_more w bytes is.whole)) (omega (arith, le, is.first))
 
 -- a page in front of it
 pub hole_before : (w : Width) (bytes : List ℕ) (h : Head) (page : ℕ) → IsHeadOf w bytes h → page < h.first

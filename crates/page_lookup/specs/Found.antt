@@ -1,5 +1,6 @@
 -- The place of a page, looked for among extents in their order.
 use Rattle.std.specs.Prelude.{◌≡◌, ◌↔◌, ℕ, ◌-◌, ◌<◌, ◌≤◌, ◌^◌, nat_lt, List, [], ◌∷◌, ◌++◌, Option, Some, None, if◌then◌else◌}
+use Rattle.std.specs.List.{AllByRecursion}
 use Rattle.unit_fields.specs.declared.width.Width.{Width}
 use Rattle.meta_rows.specs.Prelude.{Rows}
 use Rattle.row_format.specs.Prelude.{Extent, Place, own, place_in, page_end}
@@ -17,13 +18,16 @@ abbrev pub EndBehind : ℕ → List Extent → Type 0
 EndBehind page [] = Unit {0}
 EndBehind page (e ∷ es) = page < page_end e
 
--- of the pages from this one on, each is found among the later extents as among the earlier ones
-abbrev pub FindAlike : ℕ → List Extent → List Extent → Type 0
-FindAlike page later earlier = (p : ℕ) → page ≤ p → place_found later p ≡ place_found earlier p
+-- extents at the front are left out, each of which ends in front of the page
+pub record LeavesOut (page : ℕ) (old new : List Extent) : Type 0 where
+  pub front : List Extent
+  pub is : old ≡ front ++ new
+  pub ends : AllByRecursion (λ e. page_end e ≤ page) front
 
--- whatever extents stand behind both of them
-abbrev pub FindAlikeBefore : ℕ → List Extent → List Extent → Type 0
-FindAlikeBefore page later earlier = (behind : List Extent) → FindAlike page (later ++ behind) (earlier ++ behind)
+-- the first of the extents is there, and begins with the page or before it
+abbrev pub BeginsBy : ℕ → List Extent → Type 0
+BeginsBy page [] = ⊥
+BeginsBy page (e ∷ es) = e.first ≤ page
 
 -- the page's unit has a number of 32 bits, if it is found
 abbrev pub HasUnit : List Extent → ℕ → Type 0

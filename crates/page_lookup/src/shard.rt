@@ -2,7 +2,7 @@
 ghost use Rattle.std.specs.Prelude.{◌≡◌, ◌↔◌, ◌<◌, ◌≤◌, [], IfNone, IfSome, IsTrue, length, drop};
 ghost use Rattle.unit_fields.specs.Prelude.{bytes_of};
 ghost use Rattle.page_lookup.specs.Bytes.{csum_in, size_in, extents_read};
-ghost use Rattle.page_lookup.specs.Found.{place_found, EndBehind, FindAlikeBefore, HasUnit};
+ghost use Rattle.page_lookup.specs.Found.{place_found, EndBehind, LeavesOut, BeginsBy, HasUnit};
 ghost use Rattle.page_lookup.specs.Heads.{IsHeadOf};
 
 use blob_map::Place;
@@ -46,7 +46,7 @@ fn behind(bytes: &[u8], count: usize) -> &[u8]
 
 /// What is left of the bytes of extents without those at the front that end in front of a page. Each of them is skipped by its count.
 pub fn skip_to(width: Width, bytes: &[u8], page: u32) -> &[u8]
-    ensures alike { FindAlikeBefore page (extents_read width result.now) (extents_read width bytes.now) }
+    ensures left { LeavesOut page (extents_read width bytes.now) (extents_read width result.now) }
     ensures reaches { EndBehind page (extents_read width result.now) }
 {
     let mut left = bytes;
@@ -64,6 +64,16 @@ pub fn is_done(width: Width, bytes: &[u8]) -> bool
     ensures { IsTrue result ↔ (extents_read width bytes.now ≡ []) }
 {
     head_in(width, bytes).is_none()
+}
+
+/// Whether the extent at the front, if there is one, begins with a page or before it.
+pub fn begins_by(width: Width, bytes: &[u8], page: u32) -> bool
+    ensures { IsTrue result → BeginsBy page (extents_read width bytes.now) }
+{
+    match head_in(width, bytes) {
+        Some(head) => head.first <= page,
+        None => false,
+    }
 }
 
 // The checksum in the first bytes.

@@ -1,6 +1,5 @@
-use Rattle.std.proofs.Common.{◌≡◌, ◌<◌, ◌+◌, ◌-◌, ◌∙◌, Some, None, ap, sym, length, drop, arith, rules}
+use Rattle.std.proofs.Common.{◌≡◌, ◌<◌, ◌+◌, ◌∙◌, Some, None, ap, sym, length, drop, arith, rules}
 use Rattle.std.proofs.lemmas.List.{length-drop}
-use Rattle.unit_fields.specs.Prelude.{bytes_of}
 use Rattle.row_format.specs.Prelude.{own}
 use Rattle.page_lookup.specs.Prelude.{csum_in, size_in, place_found}
 use Rattle.page_lookup.proofs.Fronts.{none_read, hole_before, below, csum_there, place_read, unit_fits}

@@ -1,31 +1,29 @@
-//! The values of shards' rows spelled by hand, and maps split by a bound on the bytes of a shard.
+//! The values of shards' rows spelled by hand, and maps cut by a bound on the bytes of a shard.
 
 use crate::cases::first_false;
 use blob_map::{PageMap, Place};
 use byte_maps::Bytes;
-use extent_shards::split;
+use extent_shards::{pages_behind, push_shard};
 use std::alloc::{AllocError, Global};
 use unit_fields::{UnitNo, Width};
 
-// The values of the rows of a map's shards, split by a bound on their bytes, if there is one.
-fn shard_values(
-    alloc: Global,
-    pages: &PageMap,
-    bound: Option<u32>,
-) -> Result<Vec<Bytes>, AllocError> {
+// The values of the rows of a map's shards, cut by a bound on their bytes.
+fn shard_values(alloc: Global, pages: &PageMap, bound: u32) -> Result<Vec<Bytes>, AllocError> {
     let mut values = Vec::new(alloc);
-    for shard in split(alloc, Width::FourBytes, pages, bound)?.as_slice() {
-        values.push(shard.encode(alloc, Width::FourBytes)?)?;
+    let mut left = pages.pages();
+    for _ in 0..pages.pages().len() {
+        if !left.is_empty() {
+            let mut value = Vec::new(alloc);
+            let front = push_shard(&mut value, Width::FourBytes, left, bound)?;
+            values.push(Bytes::from_vec(value))?;
+            left = pages_behind(left, front.count);
+        }
     }
     Ok(values)
 }
 
-// The values of the shards of the map of these pages, each with its unit, split by a bound.
-fn values_of(
-    alloc: Global,
-    pages: &[(u32, u32)],
-    bound: Option<u32>,
-) -> Result<Vec<Bytes>, AllocError> {
+// The values of the shards of the map of these pages, each with its unit, cut by a bound.
+fn values_of(alloc: Global, pages: &[(u32, u32)], bound: u32) -> Result<Vec<Bytes>, AllocError> {
     let mut map = PageMap::new(alloc);
     for (page, unit) in pages {
         let csum = unit / 2;
@@ -41,7 +39,7 @@ const TWO_EXTENTS: &[u8] =
 
 // Whether their shard alone has this value.
 fn is_value(alloc: Global) -> Result<bool, AllocError> {
-    let values = values_of(alloc, &[(7, 60), (3, 40), (4, 41)], None)?;
+    let values = values_of(alloc, &[(7, 60), (3, 40), (4, 41)], u32::MAX)?;
     match values.as_slice() {
         [only] => Ok(only.as_slice() == TWO_EXTENTS),
         _ => Ok(false),
@@ -52,17 +50,17 @@ fn is_value(alloc: Global) -> Result<bool, AllocError> {
 const THREE: &[(u32, u32)] = &[(3, 40), (4, 41), (7, 60), (9, 50)];
 
 // The pages, a bound, and the bytes of each shard then.
-type Split = (&'static [(u32, u32)], Option<u32>, &'static [usize]);
+type Cut = (&'static [(u32, u32)], u32, &'static [usize]);
 
-static SPLITS: [Split; 7] = [
-    (THREE, None, &[49]),
-    (THREE, Some(49), &[49]),
-    (THREE, Some(48), &[34, 15]),
-    (THREE, Some(33), &[19, 30]),
-    (THREE, Some(29), &[19, 15, 15]),
-    (THREE, Some(0), &[19, 15, 15]),
+static CUTS: [Cut; 7] = [
+    (THREE, u32::MAX, &[49]),
+    (THREE, 49, &[49]),
+    (THREE, 48, &[34, 15]),
+    (THREE, 33, &[19, 30]),
+    (THREE, 29, &[19, 15, 15]),
+    (THREE, 0, &[19, 15, 15]),
     // a map of holes has no shards
-    (&[], None, &[]),
+    (&[], u32::MAX, &[]),
 ];
 
 fn have_lengths(values: &[Bytes], lengths: &[usize]) -> bool {
@@ -74,9 +72,9 @@ fn have_lengths(values: &[Bytes], lengths: &[usize]) -> bool {
     values.len() == lengths.len()
 }
 
-/// The place of the first that is split otherwise.
+/// The place of the first that is cut otherwise.
 pub fn first_wrong(alloc: Global) -> Result<Option<usize>, AllocError> {
-    for (i, (pages, bound, lengths)) in SPLITS.iter().enumerate() {
+    for (i, (pages, bound, lengths)) in CUTS.iter().enumerate() {
         if !have_lengths(&values_of(alloc, pages, *bound)?, lengths) {
             return Ok(Some(i));
         }

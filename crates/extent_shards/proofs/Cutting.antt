@@ -1,21 +1,21 @@
 -- How many of a map's pages are in its first shard.
-use Rattle.std.proofs.Common.{◌≡◌, ℕ, ◌+◌, ◌<◌, ◌≤◌, Bool, true, false, cond, List, [], ◌∷◌, ◌++◌, length, take, drop, Option, None, sym, ap, subst, ◌∙◌, append_assoc, append-nil, arith}
+use Rattle.std.proofs.Common.{◌≡◌, ◌⊎◌, inl, inr, ℕ, zero, suc, ◌+◌, ◌<◌, ◌≤◌, Bool, true, false, cond, List, [], ◌∷◌, ◌++◌, length, get_or, take, drop, Option, None, refl, sym, ap, subst, ◌∙◌, append_assoc, append-nil, arith}
 use Rattle.std.specs.Prelude.{nat_le}
 use Rattle.std.specs.List.{flat_map}
 use Rattle.std.specs.Int.{w16, w32, to_le_bytes}
 use Rattle.std.proofs.lemmas.Bool.Decides.{nat_tests}
-use Rattle.std.proofs.lemmas.List.{length-append, length-take, length-drop, take_all, drop_all, drop-drop}
+use Rattle.std.proofs.lemmas.List.{length-append, length-take, length-drop, drop_all, drop-drop}
 use Rattle.std.proofs.lemmas.List.Concat.{flat_map-cons, flat_map-append}
 use Rattle.unit_fields.specs.declared.width.Width.{Width}
 use Rattle.unit_fields.specs.Prelude.{bytes_of}
-use Rattle.row_format.specs.Prelude.{Extent, Place, extent_bytes, csum_bytes}
+use Rattle.row_format.specs.Prelude.{Extent, BeginsAt, Place, extent_bytes, csum_bytes}
 use Rattle.onode_codec.specs.declared.extent.Head.{Head}
 use Rattle.onode_codec.proofs.ExtentReading.{length-csums}
 use Rattle.blob_map.specs.Prelude.{extents_of}
-use Rattle.extent_shards.specs.Prelude.{shard_bytes, is_within, shards_from, shards_of, extent_with, csums_of, IsFirstRun}
-use Rattle.extent_shards.specs.Cuts.{IsFirstShard}
+use Rattle.extent_shards.specs.Prelude.{shard_bytes, is_within, shards_from, shards_of, first_of, extent_with, csums_of, IsFirstRun, WritesFront, WritesShard}
+use Rattle.extent_shards.specs.declared.pushing.Front.{Front}
 use Rattle.extent_shards.proofs.Runs.{count_csums}
-use Rattle.extent_shards.proofs.Fronts.{count_of, count_append, count_all, front_of}
+use Rattle.extent_shards.proofs.Fronts.{count_of, count_append, count_all, front_of, begins_at_first}
 
 -- what it is to be within a bound
 pub within_bound : (bound limit count : ℕ) → limit ≡ bound → count ≤ limit → nat_le count bound ≡ true
@@ -50,35 +50,40 @@ module _ (ps : List (ℕ × Place)) (h : Head) (run : IsFirstRun ps h) where
   pub run_bytes : (w : Width) → length (extent_bytes w first_extent) ≡ 11 + bytes_of w h.count
   run_bytes w = run_size w h (csums_of (take h.count ps)) ∙ ap (λ n. 11 + bytes_of w n) (count_csums h.count ps run.within)
 
--- The first pages, so many of them, are cut between two extents, and theirs are at the front of the first shard. They have so many bytes.
-pub record IsFront (w : Width) (bound : Option ℕ) (ps : List (ℕ × Place)) (count bytes : ℕ) : Type 0 where
+-- The first pages, so many of them, are cut between two extents, and theirs are at the front of the first shard. They have so many bytes, which are
+-- written behind what was there.
+pub record IsFront (w : Width) (bound : Option ℕ) (ps : List (ℕ × Place)) (count bytes : ℕ) (old new : List ℕ) : Type 0 where
   pub some : 0 < count
   pub within : count ≤ length ps
   pub apart : extents_of ps ≡ extents_of (take count ps) ++ extents_of (drop count ps)
   pub shards : shards_of w bound (extents_of ps) ≡ shards_from w bound (extents_of (take count ps)) (extents_of (drop count ps))
   pub bytes_are : bytes ≡ length (shard_bytes w (extents_of (take count ps)))
+  pub written : new ≡ old ++ shard_bytes w (extents_of (take count ps))
 
-bytes_alone : (w : Width) (e : Extent) → length (shard_bytes w (e ∷ [])) ≡ length (extent_bytes w e)
-bytes_alone w e = ap length (flat_map-cons (extent_bytes w) e [] ∙ append-nil (extent_bytes w e))
+one_alone : (w : Width) (e : Extent) → shard_bytes w (e ∷ []) ≡ extent_bytes w e
+one_alone w e = flat_map-cons (extent_bytes w) e [] ∙ append-nil (extent_bytes w e)
 
 -- the first extent
-pub run_is_front : (w : Width) (bound : Option ℕ) (ps : List (ℕ × Place)) (h : Head) (count bytes : ℕ) → IsFirstRun ps h → count ≡ h.count
-    → bytes ≡ 11 + bytes_of w h.count → IsFront w bound ps count bytes
-run_is_front w bound ps h count bytes run is bytes_is =
+pub run_is_front : (w : Width) (bound : Option ℕ) (ps : List (ℕ × Place)) (h : Head) (count bytes : ℕ) (old new : List ℕ) → IsFirstRun ps h
+    → count ≡ h.count → bytes ≡ 11 + bytes_of w h.count → new ≡ old ++ extent_bytes w (extent_with h (csums_of (take h.count ps)))
+    → IsFront w bound ps count bytes old new
+run_is_front w bound ps h count bytes old new run is bytes_is pushed =
     let e = first_extent ps h run in
     let left = extents_of (drop h.count ps) in
     let taken = run_taken ps h run in
-    let at : IsFront w bound ps h.count bytes = record {
+    let at : IsFront w bound ps h.count bytes old new = record {
       some = run.some;
       within = run.within;
       apart = run.run ∙ ap (λ l. l ++ left) (sym taken);
       shards = ap (shards_of w bound) run.run ∙ ap (λ l. shards_from w bound l left) (sym taken);
-      bytes_are = bytes_is ∙ sym (run_bytes ps h run w) ∙ sym (bytes_alone w e) ∙ ap (λ l. length (shard_bytes w l)) (sym taken);
-    } in subst (λ n. IsFront w bound ps n bytes) (sym is) at
+      bytes_are = bytes_is ∙ sym (run_bytes ps h run w) ∙ ap length (sym (one_alone w e)) ∙ ap (λ l. length (shard_bytes w l)) (sym taken);
+      written = pushed ∙ ap (λ l. old ++ l) (sym (one_alone w e)) ∙ ap (λ l. old ++ shard_bytes w l) (sym taken);
+    } in subst (λ n. IsFront w bound ps n bytes old new) (sym is) at
 
 -- one extent behind so many pages
-module _ (w : Width) (bound : Option ℕ) (ps : List (ℕ × Place)) (count bytes : ℕ) (h : Head) (front : IsFront w bound ps count bytes)
-    (run : IsFirstRun (drop count ps) h) (bytes' : ℕ) (bytes_more : bytes' ≡ bytes + (11 + bytes_of w h.count)) where
+module _ (w : Width) (bound : Option ℕ) (ps : List (ℕ × Place)) (count bytes : ℕ) (old new : List ℕ) (h : Head)
+    (front : IsFront w bound ps count bytes old new) (run : IsFirstRun (drop count ps) h) (bytes' : ℕ)
+    (bytes_more : bytes' ≡ bytes + (11 + bytes_of w h.count)) where
   abbrev shard : List Extent
   shard = extents_of (take count ps)
 
@@ -88,14 +93,16 @@ module _ (w : Width) (bound : Option ℕ) (ps : List (ℕ × Place)) (count byte
   abbrev left : List Extent
   left = extents_of (drop h.count (drop count ps))
 
+  both : shard_bytes w (shard ++ next ∷ []) ≡ shard_bytes w shard ++ extent_bytes w next
+  both = flat_map-append (extent_bytes w) shard (next ∷ []) ∙ ap (λ l. shard_bytes w shard ++ l) (one_alone w next)
+
   with_next : bytes' ≡ length (shard_bytes w (shard ++ next ∷ []))
   with_next = bytes_more ∙ omega (
     arith,
     front.bytes_are,
     run_bytes (drop count ps) h run w,
-    bytes_alone w next,
-    ap length (flat_map-append (extent_bytes w) shard (next ∷ [])),
-    length-append (shard_bytes w shard) (shard_bytes w (next ∷ [])),
+    ap length both,
+    length-append (shard_bytes w shard) (extent_bytes w next),
   )
 
   steps : (b : Bool) → is_within bound bytes' ≡ b
@@ -105,8 +112,9 @@ module _ (w : Width) (bound : Option ℕ) (ps : List (ℕ × Place)) (count byte
       (ap (is_within bound) (sym with_next) ∙ is)
 
   -- it joins the shard
-  pub more_is_front : is_within bound bytes' ≡ true → (count' : ℕ) → count' ≡ count + h.count → IsFront w bound ps count' bytes'
-  more_is_front is count' count_is =
+  pub more_is_front : is_within bound bytes' ≡ true → (count' : ℕ) (new' : List ℕ) → count' ≡ count + h.count
+      → new' ≡ new ++ extent_bytes w next → IsFront w bound ps count' bytes' old new'
+  more_is_front is count' new' count_is pushed =
       let all : extents_of ps ≡ (shard ++ next ∷ []) ++ left = front.apart ∙ ap (λ l. shard ++ l) run.run ∙ sym (append_assoc shard (next ∷ []) left) in
       let taken : extents_of (take (count + h.count) ps) ≡ shard ++ next ∷ [] =
       front_of ps (count + h.count) (shard ++ next ∷ []) left all (omega (
@@ -118,34 +126,96 @@ module _ (w : Width) (bound : Option ℕ) (ps : List (ℕ × Place)) (count byte
         run_count (drop count ps) h run,
       )) in
       let behind : drop h.count (drop count ps) ≡ drop (count + h.count) ps = drop-drop h.count count ps in
-      let at : IsFront w bound ps (count + h.count) bytes' = record {
+      let at : IsFront w bound ps (count + h.count) bytes' old new' = record {
         some = omega (arith, front.some);
         within = omega (arith, front.within, run.within, length-drop count ps);
         apart = all ∙ ap (λ l. l ++ left) (sym taken) ∙ ap (λ l. extents_of (take (count + h.count) ps) ++ extents_of l) behind;
         shards = steps true is ∙ ap (λ l. shards_from w bound l left) (sym taken)
             ∙ ap (λ l. shards_from w bound (extents_of (take (count + h.count) ps)) (extents_of l)) behind;
         bytes_are = with_next ∙ ap (λ l. length (shard_bytes w l)) (sym taken);
-      } in subst (λ n. IsFront w bound ps n bytes') (sym count_is) at
+        written = pushed ∙ ap (λ l. l ++ extent_bytes w next) front.written ∙ append_assoc old (shard_bytes w shard) (extent_bytes w next)
+            ∙ ap (λ l. old ++ l) (sym both) ∙ ap (λ l. old ++ shard_bytes w l) (sym taken);
+      } in subst (λ n. IsFront w bound ps n bytes' old new') (sym count_is) at
 
   -- it begins the next one
-  pub shard_is_full : is_within bound bytes' ≡ false → IsFirstShard w bound ps count
+  pub shard_is_full : is_within bound bytes' ≡ false → WritesFront w bound ps count old new
   shard_is_full is = record {
     some = front.some;
     within = front.within;
     first = steps false is ∙ ap (λ l. shard ∷ shards_of w bound l) (sym run.run);
+    written = front.written;
   }
 
 -- no extent is left
-pub shard_is_last : (w : Width) (bound : Option ℕ) (ps : List (ℕ × Place)) (count bytes : ℕ) → IsFront w bound ps count bytes → length ps ≤ count
-    → IsFirstShard w bound ps count
-shard_is_last w bound ps count bytes front le =
+pub shard_is_last : (w : Width) (bound : Option ℕ) (ps : List (ℕ × Place)) (count bytes : ℕ) (old new : List ℕ)
+    → IsFront w bound ps count bytes old new → length ps ≤ count → WritesFront w bound ps count old new
+shard_is_last w bound ps count bytes old new front le =
     let none = drop_all count ps le in
     record {
       some = front.some;
       within = front.within;
       first = front.shards ∙ ap (λ l. shards_from w bound (extents_of (take count ps)) (extents_of l)) none
           ∙ ap (λ l. extents_of (take count ps) ∷ shards_of w bound (extents_of l)) (sym none);
+      written = front.written;
     }
+
+-- ---- from no page on
+
+-- no page is in the shard yet, or those are that are at the front of it
+abbrev pub IsBegun : Width → Option ℕ → List (ℕ × Place) → ℕ → ℕ → List ℕ → List ℕ → Type 0
+IsBegun w bound ps count bytes old new = ((count ≡ 0) × (bytes ≡ 0) × (new ≡ old)) ⊎ IsFront w bound ps count bytes old new
+
+module _ (w : Width) (bound : Option ℕ) (ps : List (ℕ × Place)) (count bytes : ℕ) (old new : List ℕ) where
+  module _ (h : Head) (begun : IsBegun w bound ps count bytes old new) (run : IsFirstRun (drop count ps) h) (bytes' : ℕ)
+      (bytes_more : bytes' ≡ bytes + (11 + bytes_of w h.count)) where
+    pub one_more_run : (0 < count → is_within bound bytes' ≡ true) → (count' : ℕ) (new' : List ℕ) → count' ≡ count + h.count
+        → new' ≡ new ++ extent_bytes w (extent_with h (csums_of (take h.count (drop count ps)))) → IsFront w bound ps count' bytes' old new'
+    one_more_run is count' new' count_is pushed = elim begun [
+      | inl z ↦ run_is_front w bound ps h count' bytes' old new' (subst (λ n. IsFirstRun (drop n ps) h) z.0 run) (omega (arith, count_is, z.0))
+          (omega (arith, bytes_more, z.1))
+          (pushed ∙ ap (λ l. l ++ extent_bytes w (extent_with h (csums_of (take h.count (drop count ps))))) z.2
+          ∙ ap (λ n. old ++ extent_bytes w (extent_with h (csums_of (take h.count (drop n ps))))) z.0)
+      | inr front ↦ more_is_front w bound ps count bytes old new h front run bytes' bytes_more (is front.some) count' new' count_is pushed
+    ]
+
+    pub begun_is_full : 0 < count → is_within bound bytes' ≡ false → WritesFront w bound ps count old new
+    begun_is_full some is = elim begun [
+      | inl z ↦ absurd (omega (arith, z.0, some))
+      | inr front ↦ shard_is_full w bound ps count bytes old new h front run bytes' bytes_more is
+    ]
+
+  pub none_yet : IsBegun w bound ps count bytes old new → count ≤ 0 → bytes ≡ 0
+  none_yet begun le = elim begun [ inl z ↦ z.1 | inr front ↦ absurd (omega (arith, front.some, le)) ]
+
+  pub begun_is_last : IsBegun w bound ps count bytes old new → 0 < length ps → length ps ≤ count → WritesFront w bound ps count old new
+  begun_is_last begun some le = elim begun [
+    | inl z ↦ absurd (omega (arith, z.0, some, le))
+    | inr front ↦ shard_is_last w bound ps count bytes old new front le
+  ]
+
+-- ---- where the shard begins
+
+first_is : (es : List Extent) (page : ℕ) → BeginsAt page es → first_of es ≡ page
+first_is [] page begins = absurd begins
+first_is (e ∷ es) page begins = begins
+
+first_taken : (ps : List (ℕ × Place)) (count : ℕ) (d : ℕ × Place) → 0 < count → get_or (take count ps) 0 d ≡ get_or ps 0 d
+first_taken ps zero d some = absurd (omega (arith, some))
+first_taken [] (suc count) d some = refl
+first_taken (p ∷ ps) (suc count) d some = refl
+
+pub shard_begins : (w : Width) (bound : Option ℕ) (ps : List (ℕ × Place)) (front : Front) (d : ℕ × Place) (old new : List ℕ)
+    → WritesFront w bound ps front.count old new → front.first ≡ (get_or ps 0 d).0 → WritesShard w bound ps front old new
+shard_begins w bound ps front d old new is first = record {
+  some = is.some;
+  within = is.within;
+  shard = extents_of (take front.count ps);
+  begins = first_is (extents_of (take front.count ps)) (get_or (take front.count ps) 0 d).0
+      (begins_at_first (take front.count ps) d (omega (arith, length-take front.count ps, is.some, is.within)))
+      ∙ ap (λ (p : ℕ × Place). p.0) (first_taken ps front.count d is.some) ∙ sym first;
+  first = is.first;
+  written = is.written;
+}
 
 -- ---- without a bound
 
@@ -155,27 +225,3 @@ all_from w (e ∷ es) shard = all_from w es (shard ++ e ∷ []) ∙ ap (λ l. l 
 
 pub all_in_one : (w : Width) (e : Extent) (es : List Extent) → shards_of w None (e ∷ es) ≡ (e ∷ es) ∷ []
 all_in_one w e es = all_from w es (e ∷ [])
-
-some_in_one : (w : Width) (es : List Extent) → 0 < count_of es → shards_of w None es ≡ es ∷ []
-some_in_one w [] some = absurd (omega (arith, some))
-some_in_one w (e ∷ es) some = all_in_one w e es
-
-pub whole_is_first : (w : Width) (ps : List (ℕ × Place)) (count : ℕ) → 0 < length ps → count ≡ length ps → IsFirstShard w None ps count
-whole_is_first w ps count some is =
-    let at : IsFirstShard w None ps (length ps) = record {
-      some = some;
-      within = omega arith;
-      first = some_in_one w (extents_of ps) (omega (arith, count_all ps, some))
-          ∙ ap (λ l. extents_of l ∷ []) (sym (take_all (length ps) ps (omega arith)))
-          ∙ ap (λ l. extents_of (take (length ps) ps) ∷ shards_of w None (extents_of l)) (sym (drop_all (length ps) ps (omega arith)));
-    } in subst (IsFirstShard w None ps) (sym is) at
-
--- ---- one shard after the other
-
-pub next_cut : (w : Width) (bound : Option ℕ) (left : List (ℕ × Place)) (count : ℕ) (done done' target : List (List Extent)) → IsFirstShard w bound left count
-    → done' ≡ done ++ extents_of (take count left) ∷ [] → done ++ shards_of w bound (extents_of left) ≡ target
-    → done' ++ shards_of w bound (extents_of (drop count left)) ≡ target
-next_cut w bound left count done done' target cut is so =
-    ap (λ l. l ++ shards_of w bound (extents_of (drop count left))) is
-    ∙ append_assoc done (extents_of (take count left) ∷ []) (shards_of w bound (extents_of (drop count left)))
-    ∙ ap (λ l. done ++ l) (sym cut.first) ∙ so

@@ -2,14 +2,13 @@
 use Rattle.std.proofs.Common.{◌≡◌, ℕ, ◌+◌, ◌<◌, ◌≤◌, true, false, cond, List, [], ◌∷◌, ◌++◌, length, get_or, take, drop, refl, sym, ap, subst, ◌∙◌, append_assoc, arith}
 use Rattle.std.specs.List.{flat_map}
 use Rattle.std.proofs.lemmas.List.{drop_more, drop_all, take_more, length-take, length-map, map-append, get_or-drop}
-use Rattle.std.proofs.lemmas.List.Concat.{flat_map-cons}
 use Rattle.unit_fields.specs.declared.width.Width.{Width}
 use Rattle.row_format.specs.Prelude.{Body, private, Place, own, extent_bytes, csum_bytes}
 use Rattle.onode_codec.specs.declared.extent.Head.{Head}
 use Rattle.onode_codec.specs.Reading.{extent_head}
 use Rattle.onode_codec.proofs.ExtentReading.{head_then_csums}
 use Rattle.blob_map.specs.Prelude.{csum_of, single, longer, more, follows, extents_from, extents_of}
-use Rattle.extent_shards.specs.Prelude.{extent_with, csums_of, IsFirstRun, WritesRun}
+use Rattle.extent_shards.specs.Prelude.{extent_with, csums_of, IsFirstRun}
 use Rattle.blob_map.proofs.Back.{follows_means}
 
 -- the first pages, as many as the head says, are in its extent, and the others are to come
@@ -86,28 +85,12 @@ ends_with_all ps h g le =
           ∙ ap (λ l. extent_with h (csums_of (take h.count ps)) ∷ extents_of l) (sym none);
     }
 
-pub run_written : (w : Width) (ps : List (ℕ × Place)) (h : Head) (count : ℕ) (old mid new : List ℕ) → IsFirstRun ps h → count ≡ h.count
-    → mid ≡ old ++ extent_head h → new ≡ mid ++ flat_map (csum_bytes w) (csums_of (take count ps)) → WritesRun w ps count old new
-run_written w ps h count old mid new run is head csums = record {
-  some = omega (arith, is, run.some);
-  most = omega (arith, is, run.most);
-  within = omega (arith, is, run.within);
-  extent = extent_with h (csums_of (take h.count ps));
-  run = run.run ∙ ap (λ n. extent_with h (csums_of (take h.count ps)) ∷ extents_of (drop n ps)) (sym is);
-  written = csums ∙ ap (λ l. l ++ flat_map (csum_bytes w) (csums_of (take count ps))) head
-      ∙ append_assoc old (extent_head h) (flat_map (csum_bytes w) (csums_of (take count ps)))
-      ∙ ap (λ n. old ++ (extent_head h ++ flat_map (csum_bytes w) (csums_of (take n ps)))) is
-      ∙ ap (λ l. old ++ l) (head_then_csums w h (csums_of (take h.count ps)) (count_csums h.count ps run.within));
-}
-
--- one extent more is written, and fewer pages are left
-pub write_step : (w : Width) (ps left : List (ℕ × Place)) (count : ℕ) (old new target : List ℕ) → WritesRun w left count old new
-    → old ++ flat_map (extent_bytes w) (extents_of left) ≡ target → new ++ flat_map (extent_bytes w) (extents_of (drop count left)) ≡ target
-write_step w ps left count old new target run so =
-    let behind = flat_map (extent_bytes w) (extents_of (drop count left)) in
-    ap (λ l. l ++ behind) run.written ∙ append_assoc old (extent_bytes w run.extent) behind
-    ∙ ap (λ l. old ++ l) (sym (flat_map-cons (extent_bytes w) run.extent (extents_of (drop count left)))
-    ∙ ap (flat_map (extent_bytes w)) (sym run.run)) ∙ so
+pub run_written : (w : Width) (ps : List (ℕ × Place)) (h : Head) (old mid new : List ℕ) → IsFirstRun ps h → mid ≡ old ++ extent_head h
+    → new ≡ mid ++ flat_map (csum_bytes w) (csums_of (take h.count ps)) → new ≡ old ++ extent_bytes w (extent_with h (csums_of (take h.count ps)))
+run_written w ps h old mid new run head csums =
+    let numbers = flat_map (csum_bytes w) (csums_of (take h.count ps)) in
+    csums ∙ ap (λ l. l ++ numbers) head ∙ append_assoc old (extent_head h) numbers
+    ∙ ap (λ l. old ++ l) (head_then_csums w h (csums_of (take h.count ps)) (count_csums h.count ps run.within))
 
 -- the page behind those of the extent, by its place among the pages behind the first
 pub next_of : (ps rest : List (ℕ × Place)) (h : Head) (i : ℕ) (q : ℕ × Place) → rest ≡ drop 1 ps → h.count ≡ i + 1 → q ≡ get_or rest i q

@@ -48,12 +48,3 @@ pub record IsFirstRun (ps : List (ℕ × Place)) (h : Head) : Type 0 where
   pub most : h.count ≤ 256
   pub within : h.count ≤ length ps
   pub run : extents_of ps ≡ extent_with h (csums_of (take h.count ps)) ∷ extents_of (drop h.count ps)
-
--- the first of the pages' extents, which has so many of them, is written behind what was there
-pub record WritesRun (w : Width) (ps : List (ℕ × Place)) (count : ℕ) (old new : List ℕ) : Type 0 where
-  pub some : 0 < count
-  pub most : count ≤ 256
-  pub within : count ≤ length ps
-  pub extent : Extent
-  pub run : extents_of ps ≡ extent ∷ extents_of (drop count ps)
-  pub written : new ≡ old ++ extent_bytes w extent

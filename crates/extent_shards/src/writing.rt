@@ -1,9 +1,9 @@
 //! The value of a shard's row, written from the pages of a map.
-ghost use Rattle.std.specs.Prelude.{◌≡◌, ◌++◌, ◌<◌, ◌≤◌, List, ℕ, length, drop, IfOk, OnOk};
+ghost use Rattle.std.specs.Prelude.{◌≡◌, ◌++◌, ◌<◌, ◌≤◌, List, ℕ, length, take, drop, OnOk};
 ghost use Rattle.std.specs.List.{flat_map};
 ghost use Rattle.row_format.specs.Prelude.{csum_bytes, extent_bytes};
-ghost use Rattle.blob_map.specs.Prelude.{follows, extents_of};
-ghost use Rattle.extent_shards.specs.Values.{extent_with, csums_of, IsFirstRun, WritesRun};
+ghost use Rattle.blob_map.specs.Prelude.{follows};
+ghost use Rattle.extent_shards.specs.Values.{extent_with, csums_of, IsFirstRun};
 
 use blob_map::Place;
 use onode_codec::{Head, push_csum};
@@ -25,7 +25,7 @@ fn follows(head: &Head, page: u32, place: &Place) -> bool
 }
 
 /// The pages behind so many.
-pub fn behind(pages: &[(u32, Place)], count: usize) -> &[(u32, Place)]
+pub fn pages_behind(pages: &[(u32, Place)], count: usize) -> &[(u32, Place)]
     requires { count ≤ length pages.now }
     ensures { result.now ≡ drop count pages.now }
 {
@@ -43,7 +43,7 @@ pub fn first_run(pages: &[(u32, Place)]) -> Head
         count: 1,
         unit: place.unit,
     };
-    for (page, place) in behind(pages, 1) {
+    for (page, place) in pages_behind(pages, 1) {
         if !follows(&head, *page, place) {
             return head;
         }
@@ -61,34 +61,16 @@ fn push_csums(out: &mut Vec<u8>, width: Width, pages: &[(u32, Place)]) -> Result
     Ok(())
 }
 
-// Writes the first of the pages' extents, and says how many of them it has.
-fn push_run(out: &mut Vec<u8>, width: Width, pages: &[(u32, Place)]) -> Result<usize, AllocError>
-    requires { 0 < length pages.now }
-    ensures { IfOk result (λ count. WritesRun width pages.now count out.old.items out.new.items) }
+/// Writes the first of the pages' extents, which has this head, with checksums of this width.
+pub fn push_run(
+    out: &mut Vec<u8>,
+    width: Width,
+    pages: &[(u32, Place)],
+    head: &Head,
+) -> Result<(), AllocError>
+    requires { IsFirstRun pages.now head.now }
+    ensures { OnOk result (out.new.items ≡ out.old.items ++ extent_bytes width (extent_with head.now (csums_of (take head.now.count pages.now)))) }
 {
-    let head = first_run(pages);
     head.push(out)?;
-    let count = usize::from(head.count);
-    push_csums(out, width, &pages[..count])?;
-    Ok(count)
-}
-
-/// How many bytes the extents of pages have at the least: as many as one extent has.
-pub fn least_bytes(width: Width, pages: &[(u32, Place)]) -> usize {
-    pages
-        .len()
-        .saturating_mul(width.bytes_of(1))
-        .saturating_add(HEAD_BYTES)
-}
-
-/// Writes the extents of pages, one behind the other, with checksums of this width.
-pub fn push_value(out: &mut Vec<u8>, width: Width, pages: &[(u32, Place)]) -> Result<(), AllocError>
-    ensures { OnOk result (out.new.items ≡ out.old.items ++ flat_map (extent_bytes width) (extents_of pages.now)) }
-{
-    let mut left = pages;
-    'runs: while !left.is_empty() {
-        let count = push_run(out, width, left)?;
-        left = behind(left, count);
-    }
-    Ok(())
+    push_csums(out, width, &pages[..usize::from(head.count)])
 }

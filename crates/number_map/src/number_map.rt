@@ -1,5 +1,6 @@
 //! A finite map from numbers, kept as a list of entries in ascending order.
 ghost use Rattle.std.specs.Prelude.{◌≡◌, ◌≤◌, ◌-◌, T, not, length, IfOk, take, drop, ◌++◌, ◌==◌, OnOk, OnErr, IsOk, IsTrue, option_copied};
+ghost use Rattle.std.specs.List.{insert};
 ghost use Rattle.std.specs.Ordering.{nat_cmp};
 ghost use Rattle.std.specs.FinMap as map;
 ghost use Rattle.number_map.specs.NumberMap.{place_from, is_key_in, IsFront, IsBack};
@@ -102,6 +103,23 @@ impl<V> NumberMap<V> {
     }
 }
 
+// Puts an entry in at a place. Behind all others nothing is moved.
+fn put_in<V: Drop>(
+    entries: &mut Vec<(u32, V)>,
+    at: usize,
+    entry: (u32, V),
+) -> Result<(), AllocError>
+    requires { at ≤ length entries.old.items }
+    ensures ok { OnOk result (entries.new.items ≡ insert entries.old.items at entry) }
+    ensures err { OnErr result (entries.new.items ≡ entries.old.items) }
+{
+    if at == entries.len() {
+        Ok(entries.push(entry)?)
+    } else {
+        Ok(entries.insert(at, entry)?)
+    }
+}
+
 impl<V: Drop> NumberMap<V> {
     /// Sets the value of a key, and drops the one that it had. Memory can run out only at a key that isn't there.
     pub fn insert(&mut self, key: u32, value: V) -> Result<(), AllocError>
@@ -115,7 +133,7 @@ impl<V: Drop> NumberMap<V> {
                 entry.1 = value;
                 Ok(())
             }
-            Err(at) => Ok(self.entries.insert(at, (key, value))?),
+            Err(at) => Ok(put_in(&mut self.entries, at, (key, value))?),
         }
     }
 }

@@ -61,4 +61,5 @@ pub data OtherGoes (flights : List Flight) (ticket : ℕ) : Option Event → Oth
       → q ≡ record p { check = Some (record c { slot = written (sent ticket) }) } → OtherGoes flights ticket (Some Flush) p q
   slot_flushed : {p q : OtherPart} (c : CheckPart) (flush : ℕ) → p.check ≡ Some c → c.slot ≡ written (sent flush)
       → q ≡ record p { check = Some (record c { slot = written flushed }) } → OtherGoes flights ticket (Some (Done flush true)) p q
-  switches : {p q : OtherPart} (c : CheckPart) → p.check ≡ Some c → c.slot ≡ written flushed → q ≡ switched_part p → OtherGoes flights ticket None p q
+  switches : {p q : OtherPart} (c : CheckPart) → p.check ≡ Some c → c.slot ≡ written flushed → q ≡ switched_part p
+      → OtherGoes flights ticket None p q

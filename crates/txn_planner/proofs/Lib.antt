@@ -16,5 +16,6 @@ pub mod PutPages
 pub mod Finished
 pub mod SameLayouts
 pub mod ObjectNames
+pub mod Cuts
 pub mod ObjectRows
 pub mod ChangedRows

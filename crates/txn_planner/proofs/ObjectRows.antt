@@ -245,8 +245,8 @@ module _ (w : Width) (rows : Rows) (c o : List ℕ) (coll : IsCollName c) (name 
       (subst (AllByRecursion (Stands pages)) (sym (shards_back w (Some shard_limit) (extents_of (finite.entries pages)))) (firsts_stand pages)) es one) in
       numbers (first_of es) found.0 found.1
 
-  abbrev dropping : ChangeMap
-  dropping = without_shards c o (openings shards set.empty) present m
+  abbrev coming : ChangeMap
+  coming = with_shards w rows c o shards m
 
   abbrev written : ChangeMap
   written = with_map w rows c o present pages m
@@ -265,19 +265,19 @@ module _ (w : Width) (rows : Rows) (c o : List ℕ) (coll : IsCollName c) (name 
   opens : (es : List Extent) → IsOneOf shards es → set.contains (openings shards set.empty) (first_of es) ≡ true
   opens es one = is_opening shards set.empty es one
 
-  before_it : (page : ℕ) → page < 2 ^ 32 → shard_at shards page ≡ None
-      → finite.get written (shard_key c o page) ≡ finite.get dropping (shard_key c o page)
-  before_it page lt none = elim (come_others w rows c o shards dropping (shard_key c o page)) [
+  none_comes : (page : ℕ) → page < 2 ^ 32 → shard_at shards page ≡ None
+      → finite.get coming (shard_key c o page) ≡ finite.get m (shard_key c o page)
+  none_comes page lt none = elim (come_others w rows c o shards m (shard_key c o page)) [
     | inl x ↦
         let same : page ≡ first_of x.0 = (same_shard c o c o page (first_of x.0) coll name coll name lt (small x.0 x.1) x.2).2 in
         absurd (let t = sym none ∙ ap (shard_at shards) same ∙ one_is_at shards rise x.0 x.1 in cc)
     | inr same ↦ same
   ]
 
-  -- the row of one that comes isn't dropped before
+  -- the row of one that comes isn't dropped behind it
   not_dropped : (es : List Extent) → IsOneOf shards es
-      → finite.get dropping (shard_key c o (first_of es)) ≡ finite.get m (shard_key c o (first_of es))
-  not_dropped es one = elim (drop_others c o (openings shards set.empty) present m (shard_key c o (first_of es))) [
+      → finite.get written (shard_key c o (first_of es)) ≡ finite.get coming (shard_key c o (first_of es))
+  not_dropped es one = elim (drop_others c o (openings shards set.empty) present coming (shard_key c o (first_of es))) [
     | inl x ↦
         let same : first_of es ≡ x.0 =
         (same_shard c o c o (first_of es) x.0 coll name coll name (small es one) (all_at (λ n. n < 2 ^ 32) present x.0 below x.1) x.3).2 in
@@ -286,14 +286,13 @@ module _ (w : Width) (rows : Rows) (c o : List ℕ) (coll : IsCollName c) (name 
   ]
 
   came : (es : List Extent) → IsOneOf shards es → Comes w rows c o es m written
-  came es one = elim (all_come w rows c o coll name shards rise small dropping es one) [
-    | inl new ↦ inl new
-    | inr kept ↦ inr (kept.0, kept.1 ∙ not_dropped es one)
+  came es one = elim (all_come w rows c o coll name shards rise small m es one) [
+    | inl new ↦ inl (not_dropped es one ∙ new)
+    | inr kept ↦ inr (kept.0, not_dropped es one ∙ kept.1)
   ]
 
   went : (page : ℕ) → page < 2 ^ 32 → shard_at shards page ≡ None → In present page → finite.get written (shard_key c o page) ≡ Some None
-  went page lt none among =
-      before_it page lt none ∙ dropped c o (openings shards set.empty) present m page (none_opens page none) among
+  went page lt none among = dropped c o (openings shards set.empty) present coming page (none_opens page none) among
 
   pub is_cut : IsCutOver w rows c o present pages m written
   is_cut = record {
@@ -303,21 +302,21 @@ module _ (w : Width) (rows : Rows) (c o : List ℕ) (coll : IsCollName c) (name 
         ⊎ ((finite.get rows (shard_key c o n) ≡ Some (shard_bytes w es)) × (finite.get written (shard_key c o n) ≡ finite.get m (shard_key c o n))))
         one.1 (came es one.0);
     gone = went;
-    other = λ page lt none. elim (drop_others c o (openings shards set.empty) present m (shard_key c o page)) [
+    other = λ page lt none. elim (drop_others c o (openings shards set.empty) present coming (shard_key c o page)) [
       | inl x ↦
           let same : page ≡ x.0 =
           (same_shard c o c o page x.0 coll name coll name lt (all_at (λ n. n < 2 ^ 32) present x.0 below x.1) x.3).2 in
           inl (went page lt none (subst (In present) (sym same) x.1))
-      | inr same ↦ inr (before_it page lt none ∙ same)
+      | inr same ↦ inr (same ∙ none_comes page lt none)
     ];
   }
 
   pub map_others : (key : List ℕ) → ((page : ℕ) × (page < 2 ^ 32) × (key ≡ shard_key c o page)) ⊎ (finite.get written key ≡ finite.get m key)
-  map_others key = elim (come_others w rows c o shards dropping key) [
-    | inl x ↦ inl (first_of x.0, small x.0 x.1, x.2)
-    | inr same ↦ elim (drop_others c o (openings shards set.empty) present m key) [
-      | inl x ↦ inl (x.0, all_at (λ page. page < 2 ^ 32) present x.0 below x.1, x.3)
-      | inr kept ↦ inr (same ∙ kept)
+  map_others key = elim (drop_others c o (openings shards set.empty) present coming key) [
+    | inl x ↦ inl (x.0, all_at (λ page. page < 2 ^ 32) present x.0 below x.1, x.3)
+    | inr kept ↦ elim (come_others w rows c o shards m key) [
+      | inl x ↦ inl (first_of x.0, small x.0 x.1, x.2)
+      | inr same ↦ inr (kept ∙ same)
     ]
   ]
 

@@ -81,10 +81,15 @@ with_shards w rows c o (shard ∷ shards) changes = with_shards w rows c o shard
 abbrev pub cut_of : Width → PageMap → List (List Extent)
 cut_of w pages = shards_of w (Some shard_limit) (extents_of (finite.entries pages))
 
--- an object with shards at these pages gets a map
+-- the shards of extents come, and begin at these pages
+pub record ArePut (w : Width) (rows : Rows) (c o : List ℕ) (es : List Extent) (anew : Units) (changes changes' : ChangeMap) : Type 0 where
+  pub begin : anew ≡ openings (shards_of w (Some shard_limit) es) set.empty
+  pub come : changes' ≡ with_shards w rows c o (shards_of w (Some shard_limit) es) changes
+
+-- an object with shards at these pages gets a map: its shards come, and those go that begin where none of them does
 abbrev pub with_map : Width → Rows → List ℕ → List ℕ → List ℕ → PageMap → ChangeMap → ChangeMap
-with_map w rows c o present pages changes = with_shards w rows c o (cut_of w pages)
-    (without_shards c o (openings (cut_of w pages) set.empty) present changes)
+with_map w rows c o present pages changes = without_shards c o (openings (cut_of w pages) set.empty) present
+    (with_shards w rows c o (cut_of w pages) changes)
 
 -- whether an object is as long as it was, or missing as it was
 abbrev pub is_as_long : Option ℕ → Option ℕ → Bool

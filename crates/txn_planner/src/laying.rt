@@ -2,23 +2,24 @@
 //!
 //! An onode is written where the object is longer or shorter than it was. Where one of its pages has come, gone or moved, its map is cut
 //! into shards anew, and of these the ones are written whose bytes aren't those of the row that is there.
-ghost use Rattle.std.specs.Prelude.{◌≡◌, ℕ, Option, length, option_copied, IfOk, OnOk};
+ghost use Rattle.std.specs.Prelude.{◌≡◌, ◌≤◌, ℕ, List, Option, length, option_copied, IfOk, OnOk};
 ghost use Rattle.std.specs.Option.{option_map};
 ghost use Rattle.std.specs.FinMap as finite;
-ghost use Rattle.std.specs.FinSet as set;
-ghost use Rattle.row_format.specs.Prelude.{coll_key};
+ghost use Rattle.unit_fields.specs.declared.width.Width.{Width};
+ghost use Rattle.row_format.specs.Prelude.{Extent, coll_key};
+ghost use Rattle.blob_map.specs.Prelude.{extents_of};
+ghost use Rattle.extent_shards.specs.Prelude.{shard_bytes, first_of};
 ghost use Rattle.plan_drafts.specs.Prelude.{or_empty, laid};
 ghost use Rattle.page_edits.specs.Writes.{held_in};
 ghost use Rattle.txn_planner.specs.Laying.{
   PutsBelow,
   AllTakeBelow,
   AllNamed,
-  openings,
   without_shard,
   without_shards,
   has_value,
   with_shard,
-  with_shards,
+  ArePut,
   with_map,
   is_as_long,
   with_onode,
@@ -31,10 +32,10 @@ ghost use Rattle.txn_planner.specs.Laying.{
 use crate::operations::is_any_on_coll;
 use crate::planning::Planning;
 use crate::touched::Touched;
-use blob_map::PageMap;
+use blob_map::{PageMap, Place};
 use byte_maps::{ByteMap, Bytes, byte_order};
 use bytes::Bytes as SharedBytes;
-use extent_shards::{SHARD_BYTES, Shard, split};
+use extent_shards::{SHARD_BYTES, pages_behind, push_shard};
 use meta_rows::RowTable;
 use object_model::Transaction;
 use object_rows::coll_name_is_one;
@@ -63,17 +64,6 @@ fn lay_pages(
         Some(draft) => lay(draft, units, contents),
         None => Ok(PageMap::new(alloc)),
     }
-}
-
-// The pages where these shards begin.
-fn openings(alloc: Global, shards: &[Shard]) -> Result<UnitSet, AllocError>
-    ensures { IfOk result (λ pages. pages ≡ openings shards.now set.empty) }
-{
-    let mut pages = UnitSet::new(alloc);
-    for shard in shards {
-        pages.insert(shard.first_page())?;
-    }
-    Ok(pages)
 }
 
 // The shard that begins at this page goes, but for one that comes anew.
@@ -155,46 +145,58 @@ fn has_value(held: Option<&Bytes>, value: &[u8]) -> bool
     }
 }
 
-// This shard comes, but for one whose row has its bytes already. They are written into the buffer first, and copied where they are new.
+// The shard with this value comes, but for one whose row has it already. The value is copied where it is new.
 fn put_shard(
     alloc: Global,
-    width: Width,
     rows: &RowTable,
     coll: &CollName,
     object: &Name,
-    shard: &Shard,
-    bytes: &mut Vec<u8>,
+    first: u32,
+    value: &[u8],
     changes: &mut RowChanges,
 ) -> Result<(), AllocError>
-    ensures { OnOk result (changes.new ≡ with_shard width rows.now.rows coll.now object.now shard.now changes.old) }
+    ensures { OnOk result ((width : Width) (shard : List Extent) → first_of shard ≡ first → value.now ≡ shard_bytes width shard
+        → changes.new ≡ with_shard width rows.now.rows coll.now object.now shard changes.old) }
 {
-    let key = shard_key(alloc, coll, object, shard.first_page())?;
-    bytes.clear();
-    shard.push(width, bytes)?;
-    if has_value(rows.get(key.as_slice()), bytes.as_slice()) {
+    let key = shard_key(alloc, coll, object, first)?;
+    if has_value(rows.get(key.as_slice()), value) {
         return Ok(());
     }
-    let value = Bytes::from_slice(alloc, bytes.as_slice())?;
+    let value = Bytes::from_slice(alloc, value)?;
     changes.set(key, Some(value))
 }
 
-// So do these.
+// The shards of these pages come, cut with the bound, each from one buffer. They begin at these pages.
 fn put_shards(
     alloc: Global,
     width: Width,
     rows: &RowTable,
     coll: &CollName,
     object: &Name,
-    shards: &[Shard],
+    pages: &[(u32, Place)],
     changes: &mut RowChanges,
-) -> Result<(), AllocError>
-    ensures { OnOk result (changes.new ≡ with_shards width rows.now.rows coll.now object.now shards.now changes.old) }
+) -> Result<UnitSet, AllocError>
+    ensures { IfOk result (λ anew. ArePut width rows.now.rows coll.now object.now (extents_of pages.now) anew changes.old changes.new) }
 {
-    let mut bytes = Vec::new(alloc);
-    for shard in shards {
-        put_shard(alloc, width, rows, coll, object, shard, &mut bytes, changes)?;
+    let mut anew = UnitSet::new(alloc);
+    let mut value = Vec::new(alloc);
+    let mut left = pages;
+    'shards: while !left.is_empty() {
+        value.clear();
+        let front = push_shard(&mut value, width, left, SHARD_BYTES)?;
+        put_shard(
+            alloc,
+            rows,
+            coll,
+            object,
+            front.first,
+            value.as_slice(),
+            changes,
+        )?;
+        anew.insert(front.first)?;
+        left = pages_behind(left, front.count);
     }
-    Ok(())
+    Ok(anew)
 }
 
 // An object with shards at these pages gets this map: its shards are those of the map, cut with the bound.
@@ -210,10 +212,8 @@ fn put_map(
 ) -> Result<(), AllocError>
     ensures { OnOk result (changes.new ≡ with_map width rows.now.rows coll.now object.now present.now pages.now changes.old) }
 {
-    let anew = split(alloc, width, pages, Some(SHARD_BYTES))?;
-    let opening = openings(alloc, &anew)?;
-    drop_shards(alloc, coll, object, &opening, present, changes)?;
-    put_shards(alloc, width, rows, coll, object, &anew, changes)
+    let anew = put_shards(alloc, width, rows, coll, object, pages.pages(), changes)?;
+    drop_shards(alloc, coll, object, &anew, present, changes)
 }
 
 // An object that was looked at gets its rows: its onode by its size alone, and its shards by its map alone.

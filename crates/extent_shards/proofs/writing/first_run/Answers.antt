@@ -24,9 +24,9 @@ loop-page-preserved c =
     let q = c.loop-page-item.result in
     let grows = c.loop-page.invariant.grows in
     let is : q ≡ get_or ps h.count q =
-    next_of ps c.behind-page-items.result.now h c.loop-page.page-index q c.behind-page-items.ensures c.loop-page.invariant.counted c.loop-page-item.is in
+    next_of ps c.pages_behind-page-items.result.now h c.loop-page.page-index q c.pages_behind-page-items.ensures c.loop-page.invariant.counted c.loop-page-item.is in
     let lt : h.count < length ps =
-    omega (arith, c.loop-page.invariant.counted, c.loop-page-test.true, ap length c.behind-page-items.ensures, length-drop 1 ps) in
+    omega (arith, c.loop-page.invariant.counted, c.loop-page-test.true, ap length c.pages_behind-page-items.ensures, length-drop 1 ps) in
     record {
       counted = omega arith;
       grows = next_grows ps h q grows lt is (record h { count = h.count + 1 })
@@ -40,9 +40,9 @@ returns-then-not-follows c =
     let q = c.loop-page-item.result in
     let grows = c.loop-page.invariant.grows in
     let is : q ≡ get_or ps h.count q =
-    next_of ps c.behind-page-items.result.now h c.loop-page.page-index q c.behind-page-items.ensures c.loop-page.invariant.counted c.loop-page-item.is in
+    next_of ps c.pages_behind-page-items.result.now h c.loop-page.page-index q c.pages_behind-page-items.ensures c.loop-page.invariant.counted c.loop-page-item.is in
     let lt : h.count < length ps =
-    omega (arith, c.loop-page.invariant.counted, c.loop-page-test.true, ap length c.behind-page-items.ensures, length-drop 1 ps) in
+    omega (arith, c.loop-page.invariant.counted, c.loop-page-test.true, ap length c.pages_behind-page-items.ensures, length-drop 1 ps) in
     ends_here ps h q grows lt is (sym (c.follows.ensures _ (size_of_csums ps h grows)) ∙ c.if-not-follows.true)
 
 pub returns : goal.returns
@@ -50,5 +50,5 @@ returns c =
     let ps = c.args.pages.now in
     let h = c.loop-page.head in
     let le : length ps ≤ h.count =
-    omega (arith, c.loop-page.invariant.counted, c.loop-page-test.false, ap length c.behind-page-items.ensures, length-drop 1 ps) in
+    omega (arith, c.loop-page.invariant.counted, c.loop-page-test.false, ap length c.pages_behind-page-items.ensures, length-drop 1 ps) in
     ends_with_all ps h c.loop-page.invariant.grows le

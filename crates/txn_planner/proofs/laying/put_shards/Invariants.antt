@@ -1,7 +1,10 @@
-use Rattle.std.proofs.Common.{◌≡◌, drop}
-use Rattle.txn_planner.specs.Laying.{with_shards}
+use Rattle.std.proofs.Common.{length}
+use Rattle.blob_map.specs.Prelude.{extents_of}
+use Rattle.txn_planner.proofs.Cuts.{AreLeft}
 use Rattle.txn_planner.proofs.laying.put_shards.Given as goal
 
-abbrev pub invariant-loop-shard : goal.invariant-loop-shard
-invariant-loop-shard l = with_shards l.width l.rows.rows l.coll l.object (drop l.shard-index l.shards) l.changes
-    ≡ with_shards l.width l.rows.rows l.coll l.object l.shards l.fn.changes
+abbrev pub invariant-shards : goal.invariant-shards
+invariant-shards l = AreLeft l.width l.rows.rows l.coll l.object (extents_of l.pages) (extents_of l.left) l.anew l.fn.changes l.changes
+
+abbrev pub decreases-shards : goal.decreases-shards
+decreases-shards l = length l.left

@@ -11,5 +11,5 @@ returns-clause-ok c = record {
   same = refl;
   values = subst (λ m. ChangesValues c.args.op.now c.args.rows.now.rows c.args.coll.now (object_of c.args.op.now) m c.change_values.new.changes)
       (values_stay c.args.width c.args.rows.now.rows c.args.coll.now c.args.op.now c.args.at c.args.p.now c.change_object.new.p c.requires.on
-      c.in_ok-change_object.ensures) c.in_ok-change_values.ensures;
+      c.in_ok-change_object.ensures) c.in_ok-change_values.ensures.changed;
 }

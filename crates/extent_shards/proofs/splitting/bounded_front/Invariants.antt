@@ -1,9 +1,0 @@
-use Rattle.std.proofs.Common.{Some, ◌<◌, ◌^◌, ◌-◌, length}
-use Rattle.extent_shards.proofs.Cutting.{IsFront}
-use Rattle.extent_shards.proofs.splitting.bounded_front.Given as goal
-
-abbrev pub invariant-extents : goal.invariant-extents
-invariant-extents l = record { small : l.bytes < 2 ^ 33; front : IsFront l.width (Some l.bound) l.pages l.count l.bytes }
-
-abbrev pub decreases-extents : goal.decreases-extents
-decreases-extents l = length l.pages - l.count

@@ -123,7 +123,6 @@ fn dump_on<D: Device, K: Sink>(
         Ok(kernel) => kernel,
         Err((fail, dev)) => return (unmounted(fail), dev),
     };
-    kernel.facts();
     let walked = walk_store(alloc, &mut kernel, text, out);
     let end = ended(walked, text.has_failed(), kernel.free_units());
     let (dev, _) = unmount(alloc, kernel);

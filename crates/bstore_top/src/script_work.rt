@@ -64,7 +64,6 @@ fn work_on<D: Device>(
         Ok(kernel) => kernel,
         Err((fail, dev)) => return (unmounted(fail), dev, Book::new(alloc)),
     };
-    kernel.facts();
     let ran = run_scripts(alloc, &mut kernel, seed, scripts);
     let end = ended(ran, kernel.free_units());
     let (dev, book) = unmount(alloc, kernel);

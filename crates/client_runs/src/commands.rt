@@ -68,7 +68,6 @@ fn submit<D: Device>(
     ensures cause { IsErrOf result RunFail.DeviceRead → Rose (D.faults kernel.old.device) (D.faults kernel.new.device) }
 {
     let submitted = kernel.submit(alloc, client, line, txn);
-    kernel.facts();
     let end = noted(&submitted);
     drop(submitted);
     end
@@ -92,7 +91,6 @@ fn ask_read<D: Device>(
     ensures cause { IsErrOf result RunFail.DeviceRead → Rose (D.faults kernel.old.device) (D.faults kernel.new.device) }
 {
     let answered = kernel.ask(alloc, client, line, read);
-    kernel.facts();
     let end = replied(&answered);
     drop(answered);
     end

@@ -4,6 +4,7 @@ ghost use Rattle.block_device.specs.Prelude.{Rose};
 ghost use Rattle.store_steps.specs.Prelude.{is_ready, Does, Takes};
 ghost use Rattle.store_kernel.specs.Steps.{TakesMemory};
 ghost use Rattle.store_steps.specs.declared.step.Step.TheVariants.{Reap, Finish};
+ghost use Rattle.run_facts.specs.Prelude.{IsKept};
 ghost use Rattle.book_facts.specs.Prelude.{IsInOrder};
 ghost use Rattle.client_runs.specs.Choice.{at_position};
 ghost use Rattle.client_runs.specs.Clients.{lefts, AreTied};
@@ -44,12 +45,11 @@ fn acknowledge<D: Device>(
     ensures fault { ¬ IsErrOf result StepFail.Fault }
     ensures memory { ¬ IsErrOf result StepFail.Memory }
     ensures later { D.faults kernel.old.device ≤ D.faults kernel.new.device }
+    ensures kept { IsKept kernel.new.state (D.disk kernel.new.device) }
 {
     kernel.facts();
     let client = next_acknowledged(kernel);
-    let made = kernel.step(alloc, Step::Finish);
-    kernel.facts();
-    made?;
+    kernel.step(alloc, Step::Finish)?;
     clients.acknowledged(client);
     Ok(())
 }
@@ -73,15 +73,12 @@ fn make_step<D: Device>(
     ensures memory { IsErrOf result StepFail.Memory → TakesMemory step × (kernel.new.state ≡ kernel.old.state)
         × (D.disk kernel.new.device ≡ D.disk kernel.old.device) }
     ensures later { D.faults kernel.old.device ≤ D.faults kernel.new.device }
+    ensures kept { IsKept kernel.new.state (D.disk kernel.new.device) }
 {
     kernel.facts();
     match step {
         Step::Finish => acknowledge(alloc, kernel, clients),
-        _ => {
-            let made = kernel.step(alloc, step);
-            kernel.facts();
-            made
-        }
+        _ => kernel.step(alloc, step),
     }
 }
 
@@ -107,11 +104,7 @@ pub fn next_client<D: Device>(
         match draw(kernel, clients.able(), generator) {
             None => return Ok(None),
             Some(Drawn::Client(client)) => return Ok(Some(client)),
-            Some(Drawn::Step(step)) => {
-                let made = make_step(alloc, kernel, clients, step);
-                kernel.facts();
-                made?;
-            }
+            Some(Drawn::Step(step)) => make_step(alloc, kernel, clients, step)?,
         }
     }
 }
@@ -133,11 +126,7 @@ pub fn drain<D: Device>(
         match draw(kernel, &[], generator) {
             None => return Ok(()),
             Some(Drawn::Client(_)) => unreachable!(),
-            Some(Drawn::Step(step)) => {
-                let made = kernel.step(alloc, step);
-                kernel.facts();
-                made?;
-            }
+            Some(Drawn::Step(step)) => kernel.step(alloc, step)?,
         }
     }
 }

@@ -5,6 +5,8 @@ ghost use Rattle.meta_log.specs.Prelude.{other_unit};
 ghost use Rattle.unit_allocator.specs.Prelude.{Space};
 ghost use Rattle.store_steps.specs.declared.step.Step.TheVariants.{Reap};
 ghost use Rattle.store_steps.specs.Prelude.{State, Found, is_ready, Calls, stepping};
+ghost use Rattle.run_facts.specs.Prelude.{IsKept};
+ghost use Rattle.crash_facts.specs.Store.{KeepsDurable};
 ghost use Rattle.log_replay.specs.Prelude.{Told, IsLater, FailsMount, SubmitsNothing, IsFoundOn, IsJudged, AreStaleOf, AreRunsOn, IsLogCleared, ClearsLog, as_found};
 ghost use Rattle.mount_replay.specs.Mounting.{IsOpenedOn, BeganToClear, LeftUnopened, MountStaysDurable, IsReapedTo, with_stale};
 
@@ -64,6 +66,8 @@ fn open_on<D: Device>(
     ensures back { IfErr result (λ e. IsLater (D.disk dev) (D.disk e.1)) }
     ensures faults { MatchResult result (λ k. D.faults dev ≤ D.faults k.device) (λ e. D.faults dev ≤ D.faults e.1) }
     ensures durable { MatchResult result (λ k. MountStaysDurable (D.disk dev) (D.disk k.device)) (λ e. MountStaysDurable (D.disk dev) (D.disk e.1)) }
+    ensures kept { IfOk result (λ k. IsKept k.state (D.disk k.device)) }
+    ensures keeps { IfOk result (λ k. KeepsDurable k.state (D.disk k.device)) }
 {
     let mut dev = dev;
     let events = match clear_log(alloc, &mut dev, &found) {
@@ -72,7 +76,9 @@ fn open_on<D: Device>(
     };
     let FoundStore { sup, log, stale: _ } = found;
     let meta = MetaStore::open(&sup, log.rows, log.tail, log.number, stale);
-    Ok(Kernel::open(alloc, dev, meta, submitted, space, events))
+    let kernel = Kernel::open(alloc, dev, meta, submitted, space, events);
+    kernel.facts();
+    Ok(kernel)
 }
 
 /// Opens the store on the device: the superblock of greatest epoch tells where its log is, and the log's records make the rows. It reads
@@ -88,6 +94,8 @@ pub fn mount<D: Device>(alloc: Global, dev: D) -> Result<Kernel<D>, (MountFail, 
     ensures back { IfErr result (λ e. IsLater (D.disk dev) (D.disk e.1)) }
     ensures later { MatchResult result (λ k. D.faults dev ≤ D.faults k.device) (λ e. D.faults dev ≤ D.faults e.1) }
     ensures durable { MatchResult result (λ k. MountStaysDurable (D.disk dev) (D.disk k.device)) (λ e. MountStaysDurable (D.disk dev) (D.disk e.1)) }
+    ensures kept { IfOk result (λ k. IsKept k.state (D.disk k.device)) }
+    ensures keeps { IfOk result (λ k. KeepsDurable k.state (D.disk k.device)) }
 {
     let mut dev = dev;
     let found = match find_store(alloc, &mut dev) {
@@ -131,7 +139,6 @@ fn reap<D: Device>(alloc: Global, kernel: &mut Kernel<D>)
         Err(StepFail::Fault) => {}
         Err(StepFail::Memory) => unreachable!(),
     }
-    kernel.facts();
 }
 
 /// Takes the ends of all that is in flight.

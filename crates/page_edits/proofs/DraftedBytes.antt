@@ -5,11 +5,11 @@ use Rattle.std.specs.FinMap as finite
 use Rattle.std.proofs.lemmas.Bool.{cases_Bool, and_parts, or_from, or_right, or_parts, both_ways, false_from_ne_true}
 use Rattle.byte_maps.specs.Units.{zeros}
 use Rattle.crc32c_csum.specs.Prelude.{crc32c}
-use Rattle.row_format.specs.Prelude.{own}
+use Rattle.row_format.specs.Prelude.{Place}
 use Rattle.store_image.specs.Prelude.{page_bytes}
 use Rattle.plan_drafts.specs.declared.draft.Draft.{Draft}
 use Rattle.plan_rows.specs.declared.plan.ReadUnit.{ReadUnit}
-use Rattle.plan_drafts.specs.Edits.{Edit, end_of, covers_whole, is_there, is_cleared, is_touched, pages_put, places_read, page_after, old_page, taking_of, drafted, Held, writes_of, with_writes, HoldBytes}
+use Rattle.plan_drafts.specs.Edits.{Edit, end_of, covers_whole, is_there, is_cleared, is_touched, pages_put, places_read, page_unit, page_after, old_page, taking_of, drafted, Held, writes_of, with_writes, HoldBytes}
 use Rattle.page_edits.specs.Takings.{IsNumbered, PutsWholePages, WereRead}
 use Rattle.page_edits.proofs.Lists.{In}
 use Rattle.page_edits.proofs.PageRanges.{IsApart, touched_or_apart, covered}
@@ -80,15 +80,15 @@ module _ (e : Edit) (read : List ReadUnit) (held : Held) (n : ℕ) (d : Draft) w
         | inl t ↦ absurd (both_ways (is_touched e page) none (touched_has e.off (end_of e) page t))
       ]
 
-      kept_hold : (page unit csum : ℕ) → finite.get (drafted e n d).kept page ≡ Some (own unit csum) → finite.get (drafted e n d).puts page ≡ None
-          → (at unit ≡ page_bytes new page) × (crc32c (page_bytes new page) ≡ csum)
-      kept_hold page unit csum stands none =
-          let untouched = kept_apart e d n page (own unit csum) stands in
+      kept_hold : (page : ℕ) (place : Place) → finite.get (drafted e n d).kept page ≡ Some place → finite.get (drafted e n d).puts page ≡ None
+          → (at (page_unit place).unit ≡ page_bytes new page) × (crc32c (page_bytes new page) ≡ (page_unit place).csum)
+      kept_hold page place stands none =
+          let untouched = kept_apart e d n page place stands in
           let bare : finite.get d.puts page ≡ None = sym (puts_same e d n page
           (λ has. both_ways (is_touched e page) untouched (touched_has e.off (end_of e) page (put_touched e d page (taking_put e d page has))))
           (false_from_ne_true (is_cleared e page) (λ gone. both_ways (is_touched e page) untouched (touched_has e.off (end_of e) page (cleared_touched e d page gone)))))
           ∙ none in
-          let was = hold.kept page unit csum (kept_was e d n page (own unit csum) stands) bare in
+          let was = hold.kept page place (kept_was e d n page place stands) bare in
           let same = same_apart page (apart_of page untouched) in
           (was.0 ∙ sym same, ap crc32c same ∙ was.1)
 

@@ -1,16 +1,16 @@
 -- The old bytes of pages, as they were read or put, and that pages with new bytes are whole.
 use Rattle.std.proofs.Common.{◌≡◌, inl, inr, ℕ, ◌+◌, ◌-◌, ◌*◌, ◌≤◌, true, false, cond, List, [], ◌∷◌, ◌++◌, length, map, flat_map, Option, Some, None, is_some, eqb, refl, sym, ap, subst, ◌∙◌}
 use Rattle.std.specs.List.{AllByRecursion}
-use Rattle.std.specs.Option.{option_map_or, option_to_list}
+use Rattle.std.specs.Option.{option_map, option_map_or, option_to_list}
 use Rattle.std.specs.FinMap as finite
 use Rattle.std.proofs.lemmas.Bool.{cases_Bool, or_from, eqb-true, eqb-false}
 use Rattle.byte_maps.specs.Units.{zeros}
 use Rattle.byte_maps.proofs.Prelude.{length-zeros}
-use Rattle.row_format.specs.Prelude.{Place, own}
+use Rattle.row_format.specs.Prelude.{Place}
 use Rattle.store_image.specs.Prelude.{page_bytes}
 use Rattle.plan_drafts.specs.declared.draft.Draft.{Draft}
 use Rattle.plan_rows.specs.declared.plan.ReadUnit.{ReadUnit}
-use Rattle.plan_drafts.specs.Edits.{Edit, end_of, covers_whole, fate_of, gets_bytes, needs_old, pages_touched, pages_put, place_read, places_read, units_read, bytes_read, old_bytes_in, Held, old_page, page_after, HoldBytes}
+use Rattle.plan_drafts.specs.Edits.{Edit, end_of, covers_whole, fate_of, gets_bytes, needs_old, pages_touched, pages_put, place_read, places_read, page_unit, bytes_read, old_bytes_in, Held, old_page, page_after, HoldBytes}
 use Rattle.page_edits.specs.Takings.{PutsWholePages, WereRead}
 use Rattle.page_edits.proofs.Lists.{In, in_contains, contains_in, in_filter}
 use Rattle.page_edits.proofs.PageRanges.{IsTouched, in_touched, covered}
@@ -27,8 +27,8 @@ after_any off piece page x y from to =
 -- ---- lengths
 
 module _ (read : List ReadUnit) (all : AllByRecursion (λ r. length r.bytes ≡ 4096) read) where
-  place_length : (place : Place) → length (old_bytes_in read place) ≡ 4096
-  place_length (own unit csum) = by read all
+  unit_length : (unit : ℕ) → length (bytes_read read unit) ≡ 4096
+  unit_length unit = by read all
     where
       by : (rs : List ReadUnit) → AllByRecursion (λ r. length r.bytes ≡ 4096) rs → length (bytes_read rs unit) ≡ 4096
       by [] all = length-zeros 4096
@@ -40,7 +40,7 @@ module _ (read : List ReadUnit) (all : AllByRecursion (λ r. length r.bytes ≡ 
       by : (x : Option ℕ) (y : Option Place) → finite.get d.puts page ≡ x
           → length (option_map_or held x (option_map_or (old_bytes_in read) y (zeros 4096))) ≡ 4096
       by (Some taking) y put = whole page taking put
-      by None (Some place) none = place_length place
+      by None (Some place) none = unit_length (page_unit place).unit
       by None None none = length-zeros 4096
 
 -- ---- what was read is what the pages hold
@@ -59,6 +59,11 @@ in_flat_map f [] x y is has = absurd is
 in_flat_map f (z ∷ zs) x y (inl e) has = in_left (f z) (flat_map f zs) y (subst (λ w. In (f w) y) (sym e) has)
 in_flat_map f (z ∷ zs) x y (inr later) has = in_right (f z) (flat_map f zs) y (in_flat_map f zs x y later has)
 
+in_map : {X Y : Type 0} (f : X → Y) (xs : List X) (x : X) → In xs x → In (map f xs) (f x)
+in_map f [] x is = absurd is
+in_map f (z ∷ zs) x (inl e) = inl (ap f e)
+in_map f (z ∷ zs) x (inr later) = inr (in_map f zs x later)
+
 module _ (at : ℕ → List ℕ) where
   bytes_seen : (read : List ReadUnit) → AllByRecursion (λ r. at r.unit ≡ r.bytes) read → (unit : ℕ) → In (map (λ r. r.unit) read) unit
       → bytes_read read unit ≡ at unit
@@ -73,14 +78,14 @@ module _ (at : ℕ → List ℕ) where
 
   module _ (e : Edit) (read : List ReadUnit) (held : Held) (d : Draft) (old : List ℕ) (hold : HoldBytes at held d old)
       (reads : WereRead at (places_read e d) read) where
-    unit_was_read : (page unit csum : ℕ) → finite.get d.kept page ≡ Some (own unit csum) → In (pages_put e d) page → needs_old (fate_of e d page) ≡ true
-        → In (map (λ r. r.unit) read) unit
-    unit_was_read page unit csum stands put needs = contains_in (map (λ r. r.unit) read) unit (reads.among unit
-        (in_contains (flat_map units_read (places_read e d)) unit
-        (in_flat_map units_read (places_read e d) (own unit csum) unit
-        (in_flat_map (λ q. option_to_list (place_read (fate_of e d q) (finite.get d.kept q))) (pages_put e d) page (own unit csum) put
-        (subst (λ x. In (option_to_list x) (own unit csum)) (sym (ap (λ b. cond b (finite.get d.kept page) None) needs ∙ stands)) (inl refl)))
-        (inl refl))))
+    unit_was_read : (page : ℕ) (place : Place) → finite.get d.kept page ≡ Some place → In (pages_put e d) page → needs_old (fate_of e d page) ≡ true
+        → In (map (λ r. r.unit) read) (page_unit place).unit
+    unit_was_read page place stands put needs = contains_in (map (λ r. r.unit) read) (page_unit place).unit (reads.among (page_unit place).unit
+        (in_contains (map (λ on. on.unit) (places_read e d)) (page_unit place).unit
+        (in_map (λ on. on.unit) (places_read e d) (page_unit place)
+        (in_flat_map (λ q. option_to_list (place_read (fate_of e d q) (finite.get d.kept q))) (pages_put e d) page (page_unit place) put
+        (subst (λ x. In (option_to_list x) (page_unit place))
+        (sym (ap (λ b. cond b (option_map page_unit (finite.get d.kept page)) None) needs ∙ ap (option_map page_unit) stands)) (inl refl))))))
 
     -- A page that is touched gets what the edit makes of its old bytes: they were put or read, or the page was a hole, or they don't matter.
     pub bytes_are_new : (page : ℕ) → IsTouched e.off (end_of e) page
@@ -92,13 +97,13 @@ module _ (at : ℕ → List ℕ) where
         by (Some taking) y put stands = ap (page_after e.off e.piece page) (hold.put page taking put)
         by None None none hole = ap (page_after e.off e.piece page)
             (sym (hold.holes page (or_from (finite.contains_key d.kept page) (finite.contains_key d.puts page) (ap is_some hole) (ap is_some none))))
-        by None (Some (own unit csum)) none stands = elim (cases_Bool (covers_whole e.off (end_of e) page)) [
+        by None (Some place) none stands = elim (cases_Bool (covers_whole e.off (end_of e) page)) [
           | inr part ↦ ap (page_after e.off e.piece page) (
-              let fate = reads_old e.off (end_of e) e.clears d page (touched_has e.off (end_of e) page t) (own unit csum) part none stands in
-              bytes_seen read reads.seen unit (unit_was_read page unit csum stands
+              let fate = reads_old e.off (end_of e) e.clears d page (touched_has e.off (end_of e) page t) place part none stands in
+              bytes_seen read reads.seen (page_unit place).unit (unit_was_read page place stands
               (in_filter (λ q. gets_bytes (fate_of e d q)) (pages_touched e.off (end_of e)) page (in_touched e.off (end_of e) page t)
               (ap gets_bytes fate)) (ap needs_old fate))
-              ∙ (hold.kept page unit csum stands none).0)
+              ∙ (hold.kept page place stands none).0)
           | inl whole ↦ let c = covered e.off (end_of e) page whole in
-              after_any e.off e.piece page (bytes_read read unit) (page_bytes old page) c.0 c.1
+              after_any e.off e.piece page (old_bytes_in read place) (page_bytes old page) c.0 c.1
         ]

@@ -13,18 +13,19 @@ use Rattle.byte_maps.proofs.Prelude.{length-zeros}
 use Rattle.object_model.specs.declared.op.Op.{Op}
 use Rattle.object_model.specs.declared.op.Op.TheVariants.{Write, Zero, Truncate}
 use Rattle.object_model.specs.Prelude.{object_limit}
-use Rattle.row_format.specs.Prelude.{Place, own}
+use Rattle.row_format.specs.Prelude.{Place}
+use Rattle.store_image.specs.Prelude.{PageUnit}
 use Rattle.plan_drafts.specs.declared.draft.Draft.{Draft}
 use Rattle.plan_drafts.specs.declared.fate.Fate.{Fate}
 use Rattle.plan_drafts.specs.declared.fate.Fate.TheVariants.{Stays, Hole, Changed, Takes}
 use Rattle.plan_rows.specs.declared.plan.ReadUnit.{ReadUnit}
 use Rattle.plan_drafts.specs.Edits.{Edit, end_of, edit_of, covers_whole, gets_bytes, takes_unit, place_read, pages_put, pages_taking, with_takings, drafted, old_bytes_in, Held, old_page, page_after, writes_of, IsInLimits}
 use Rattle.page_edits.specs.declared.spans.Span.{Span}
-use Rattle.page_edits.specs.declared.writes.OldBytes.TheVariants.{Zeros, Put}
+use Rattle.page_edits.specs.declared.writes.OldBytes.TheVariants.{Zeros, Put, Read}
 use Rattle.page_edits.specs.declared.writes.PageWrite.{PageWrite}
 use Rattle.page_edits.specs.Ranges.{span_by, fate_on}
 use Rattle.page_edits.specs.Takings.{IsNumbered, PutsWholePages}
-use Rattle.page_edits.specs.Writes.{read_of, old_where, taking_by, planned, with_puts, op_at, widest, held_old, old_bytes, made_by, IsWriteBy, CanBeMade}
+use Rattle.page_edits.specs.Writes.{old_where, taking_by, planned, with_puts, op_at, widest, held_old, old_bytes, made_by, IsWriteBy, CanBeMade}
 use Rattle.page_edits.proofs.Lists.{In, all_of, all_at, filter_ascends, of_filter}
 use Rattle.page_edits.proofs.PageRanges.{covered}
 use Rattle.page_edits.proofs.Fates.{Gets, again, first, put_by}
@@ -40,11 +41,11 @@ insert_same m key v is = same (finite.insert m key v) m (λ q. elim (cases_eq q 
 ])
 
 -- old bytes that were put are those of the page's own unit
-read_not_put : (place : Option Place) (taking : ℕ) → option_map_or read_of place Zeros ≡ Put taking → ⊥
+read_not_put : (place : Option PageUnit) (taking : ℕ) → option_map_or (λ on. Read on.unit) place Zeros ≡ Put taking → ⊥
 read_not_put None taking is = absurd cc
-read_not_put (Some (own unit csum)) taking is = absurd cc
+read_not_put (Some on) taking is = absurd cc
 
-own_put : (f : Fate) (n : ℕ) (place : Option Place) (taking : ℕ) → old_where f place ≡ Put taking → taking ≡ taking_by f n
+own_put : (f : Fate) (n : ℕ) (place : Option PageUnit) (taking : ℕ) → old_where f place ≡ Put taking → taking ≡ taking_by f n
 own_put (Changed t true) n place taking is = let e : t ≡ taking = cc in sym e
 own_put (Changed t false) n place taking is = absurd cc
 own_put Stays n place taking is = absurd (read_not_put place taking is)
@@ -92,8 +93,10 @@ module _ (at : ℕ) (s : Span) (d : Draft) where
   not_taking p ps ascend is = not_behind p ps ascend (of_filter takes ps p is).0
 
   taking_ascends : (p : ℕ) (ps : List ℕ) → Ascends (p ∷ ps) → Ascends (p ∷ filter takes ps)
-  taking_ascends p ps ascend = (all_of (λ v. p < v) (filter takes ps) (λ q is. all_at (λ v. p < v) ps q ascend.0 (of_filter takes ps q is).0),
-    filter_ascends takes ps ascend.1)
+  taking_ascends p ps ascend = (
+    all_of (λ v. p < v) (filter takes ps) (λ q is. all_at (λ v. p < v) ps q ascend.0 (of_filter takes ps q is).0),
+    filter_ascends takes ps ascend.1,
+  )
 
   module _ (op : Op) (read : List ReadUnit) (held : Held) (whole : PutsWholePages held d) (piece : List ℕ) (reach : s.end ≡ s.off + length piece) where
     abbrev new_bytes : ℕ → List ℕ
@@ -104,7 +107,7 @@ module _ (at : ℕ) (s : Span) (d : Draft) where
 
     seen : (kept : Option Place) → old_by (Takes (is_some kept && true)) kept ≡ option_map_or (old_bytes_in read) kept (zeros 4096)
     seen None = refl
-    seen (Some (own unit csum)) = refl
+    seen (Some place) = refl
 
     -- what the page's fate says of old bytes is what the page has, where it gets only some
     part_is : (page : ℕ) (f : Fate) → covers_whole s.off s.end page ≡ false → GetsAs page f → old_by f (finite.get d.kept page) ≡ old_page read held d page
@@ -212,13 +215,16 @@ pub lays_same : (op : Op) (size : ℕ) (d : Draft) (page : ℕ) → In (pages_pu
     → ((widest op).off ≡ (edit_of op size).off) × ((widest op).piece ≡ (edit_of op size).piece)
 lays_same (Write o off bytes) size d page is = (refl, refl)
 lays_same (Zero o off len) size d page is = (refl, refl)
-lays_same (Truncate o to) size d page is = (refl, elim (zeros_cut_is to size) [
-  | inl less ↦ elim (zeros_cut_is to object_limit) [
-    | inl all ↦ all.1 ∙ sym less.1
-    | inr past ↦ absurd (omega (arith, some, past.0, ap (λ (l : List ℕ). length l) less.1, length-zeros (object_limit - to)))
-  ]
-  | inr stays ↦ absurd (omega (arith, some, ap (λ (l : List ℕ). length l) stays.1))
-])
+lays_same (Truncate o to) size d page is = (
+  refl,
+  elim (zeros_cut_is to size) [
+    | inl less ↦ elim (zeros_cut_is to object_limit) [
+      | inl all ↦ all.1 ∙ sym less.1
+      | inr past ↦ absurd (omega (arith, some, past.0, ap (λ (l : List ℕ). length l) less.1, length-zeros (object_limit - to)))
+    ]
+    | inr stays ↦ absurd (omega (arith, some, ap (λ (l : List ℕ). length l) stays.1))
+  ],
+)
   where
     some : to < to + length (zeros_cut to size)
     some = (put_touched (edit_of (Truncate o to) size) d page is).some

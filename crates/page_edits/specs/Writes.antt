@@ -7,7 +7,7 @@ use Rattle.number_map.specs.NumberMap.{NumberMap}
 use Rattle.object_model.specs.declared.op.Op.{Op}
 use Rattle.object_model.specs.declared.op.Op.TheVariants.{MkColl}
 use Rattle.object_model.specs.Prelude.{object_limit}
-use Rattle.row_format.specs.Prelude.{Place, own}
+use Rattle.store_image.specs.Prelude.{PageUnit}
 use Rattle.plan_drafts.specs.declared.draft.Draft.{Draft}
 use Rattle.plan_rows.specs.declared.plan.ReadUnit.{ReadUnit}
 use Rattle.plan_drafts.specs.declared.fate.Fate.{Fate}
@@ -21,14 +21,10 @@ use Rattle.page_edits.specs.Ranges.{fate_on}
 
 -- ---- which writes are planned
 
--- where the old bytes are of a page that stands there
-abbrev pub read_of : Place → OldBytes
-read_of (own unit csum) = Read unit
-
 -- Where the old bytes of a page are, by what becomes of it and by the place where they are read: nowhere, where none of them stay.
-abbrev pub old_where : Fate → Option Place → OldBytes
+abbrev pub old_where : Fate → Option PageUnit → OldBytes
 old_where (Changed taking old) place = if old then Put taking else Zeros
-old_where fate place = option_map_or read_of place Zeros
+old_where fate place = option_map_or (λ on. Read on.unit) place Zeros
 
 -- the taking of its unit, where this is the next one
 abbrev pub taking_by : Fate → ℕ → ℕ

@@ -8,7 +8,7 @@ ghost use Rattle.std.specs.FinMap.Entries.{where_key};
 ghost use Rattle.object_model.specs.declared.op.Op.{Op};
 ghost use Rattle.object_model.specs.Prelude.{object_limit};
 ghost use Rattle.plan_rows.specs.declared.plan.ReadUnit.{ReadUnit};
-ghost use Rattle.plan_drafts.specs.Edits.{Held, has_bytes_of, covers_whole, edit_of, is_touched, takes_unit, pages_taking, place_read, places_read, drafted, writes_of, IsInLimits};
+ghost use Rattle.plan_drafts.specs.Edits.{Held, page_unit, has_bytes_of, covers_whole, edit_of, is_touched, takes_unit, pages_taking, place_read, places_read, drafted, writes_of, IsInLimits};
 ghost use Rattle.page_edits.specs.Ranges.{IsOnBytes, fate_on};
 ghost use Rattle.page_edits.specs.Takings.{IsNumbered, PutsWholePages};
 ghost use Rattle.page_edits.specs.Writes.{old_where, taking_by, planned, with_puts, op_at, made_by, IsWriteBy, CanBeMade};
@@ -22,6 +22,7 @@ use byte_maps::Items;
 use number_map::NumberMap;
 use object_model::Op;
 use plan_drafts::{Draft, Fate};
+use plan_rows::PageUnit;
 use std::alloc::{AllocError, Global};
 
 /// What an edit writes, reads and leaves.
@@ -29,42 +30,58 @@ use std::alloc::{AllocError, Global};
 pub struct Edited {
     /// The pages that get new bytes, in order.
     pub writes: Items<PageWrite>,
-    /// The places whose old bytes it needs, in the order of their pages.
-    pub places: Items<Place>,
+    /// Where the old bytes are that it needs, in the order of their pages.
+    pub places: Items<PageUnit>,
     /// The pages that don't stand any more where they stood, in order, each with its place.
     pub left: Items<(u32, Place)>,
     /// How many units the transaction has taken then.
     pub taken: u32,
 }
 
-// Pages to be written, the places where their old bytes are read, and how many units are taken then.
+// Pages to be written, where their old bytes are read, and how many units are taken then.
 #[derive(Drop)]
 struct Planned {
     writes: Items<PageWrite>,
-    places: Items<Place>,
+    places: Items<PageUnit>,
     taken: u32,
 }
 
-// Where a page stands, if some of its old bytes stay.
-fn place_read(draft: &Draft, fate: Fate, page: u32) -> Option<Place>
+// The unit on which a page at this place stands, and the checksum that is kept for it.
+fn page_unit(place: Place) -> PageUnit
+    ensures { result ≡ page_unit place }
+{
+    PageUnit {
+        unit: place.unit,
+        csum: place.csum,
+    }
+}
+
+// Where a page is read, if some of its old bytes stay.
+fn place_read(draft: &Draft, fate: Fate, page: u32) -> Option<PageUnit>
     ensures { result ≡ place_read fate (finite.get draft.now.kept page) }
 {
-    if needs_old(fate) {
-        draft.kept.find(page)
-    } else {
-        None
+    if !needs_old(fate) {
+        return None;
+    }
+    match draft.kept.find(page) {
+        Some(place) => Some(page_unit(place)),
+        None => None,
     }
 }
 
 // Where the old bytes of a page are, by what becomes of it and by the place where they are read.
-fn old_where(fate: Fate, place: Option<Place>) -> OldBytes
+fn old_where(fate: Fate, place: Option<PageUnit>) -> OldBytes
     ensures { result ≡ old_where fate place }
 {
     if let Fate::Changed { taking, old } = fate {
-        return if old { OldBytes::Put(taking) } else { OldBytes::Zeros };
+        return if old {
+            OldBytes::Put(taking)
+        } else {
+            OldBytes::Zeros
+        };
     }
     match place {
-        Some(place) => OldBytes::Read(place.unit),
+        Some(on) => OldBytes::Read(on.unit),
         None => OldBytes::Zeros,
     }
 }

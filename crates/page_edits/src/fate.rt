@@ -19,7 +19,10 @@ fn fate_there(draft: &Draft, clears: bool, whole: bool, page: u32) -> Fate
     ensures { result ≡ fate_there clears whole (finite.get draft.now.puts page) (finite.get draft.now.kept page) }
 {
     if let Some(taking) = draft.puts.get(page).copied() {
-        return Fate::Changed { taking, old: !whole };
+        return Fate::Changed {
+            taking,
+            old: !whole,
+        };
     }
     if whole || draft.kept.find(page).is_some() {
         return Fate::Takes { old: !whole };

@@ -1,13 +1,13 @@
 //! Where the bytes of pages come from: memory, as long as the transaction that took their unit isn't committed, or the device, with a
-//! checksum that is compared. The pages of an object are read some at a time, old bytes that a transaction needs by their places.
+//! checksum that is compared. The pages of an object are read some at a time, old bytes that a transaction needs by their units.
 //!
 //! In Ceph's BlueStore this is `_do_read` with `_read_cache` and `_verify_csum`.
 //!
 //! Proved: pages of an object that were read are good, and their checksums are at hand: zeros in holes, the bytes in memory of a page
 //! whose unit is there, or what the device has on consecutive units, each with the checksum that is kept for it; else it is the first bad
-//! page. The old bytes of places come in the order of the places, those of each unit whole: of a unit in memory just these, whatever
-//! checksum is kept, of another one what the device has, with the checksum that is kept; else it is the first place whose unit, which
-//! isn't in memory, has bytes with another one. The device is as it was, and that it failed is said only where its count rose.
+//! page. Old bytes come in the order of their units, each unit whole: of one in memory just these, whatever checksum is kept, of another
+//! one what the device has, with the checksum that is kept; else it is the first unit that isn't in memory and has bytes with another one.
+//! The device is as it was, and that it failed is said only where its count rose.
 #![tactic(auto)]
 
 mod parts;

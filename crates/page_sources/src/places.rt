@@ -1,17 +1,16 @@
-//! Old bytes, by the places of the pages that they are in.
+//! Old bytes, by the units that hold them and the checksums that are kept.
 ghost use Rattle.std.specs.Prelude.{◌≡◌, ◌≤◌, ◌∷◌, [], map, IfOk, IfErr, IsErrOf};
 ghost use Rattle.block_device.specs.Prelude.{Rose};
-ghost use Rattle.read_facts.specs.Prelude.{IsHeldAt, AreGoodPlaces};
+ghost use Rattle.read_facts.specs.Prelude.{IsHeldAt, AreGoodUnits};
 ghost use Rattle.plan_rows.specs.Prelude.{AreReadAt};
 ghost use Rattle.write_buffers.specs.Prelude.{memory_in};
 ghost use Rattle.page_sources.specs.Places.{CanReadPlaces, GivesPlaces, IsPlacesFail};
 
 use crate::parts::{PartFail, read_units};
-use blob_map::Place;
 use block_device::Device;
 use byte_maps::Items;
 use bytes::Bytes as SharedBytes;
-use plan_rows::ReadUnit;
+use plan_rows::{PageUnit, ReadUnit};
 use std::alloc::{AllocError, Global};
 use unit_fields::limits::UNIT_BYTES;
 use write_buffers::WriteBuffers;
@@ -28,7 +27,7 @@ fn read_place<D: Device>(
     alloc: Global,
     device: &mut D,
     buffers: &WriteBuffers,
-    place: Place,
+    place: PageUnit,
 ) -> Result<ReadUnit, PartFail>
     requires can { CanReadPlaces (memory_in buffers.now) (D.disk device.old) (place ∷ []) }
     ensures ok { IfOk result (λ r. GivesPlaces (memory_in buffers.now) (D.disk device.old) (place ∷ []) (r ∷ [])) }
@@ -55,11 +54,11 @@ pub fn read_places<D: Device>(
     alloc: Global,
     device: &mut D,
     buffers: &WriteBuffers,
-    places: &[Place],
+    places: &[PageUnit],
 ) -> Result<Items<ReadUnit>, PartFail>
     requires can { CanReadPlaces (memory_in buffers.now) (D.disk device.old) places.now }
     ensures units { IfOk result (AreReadAt places.now) }
-    ensures good { IfOk result (λ read. AreGoodPlaces (memory_in buffers.now) (IsHeldAt (D.disk device.old)) places.now (map (λ r. r.bytes) read)) }
+    ensures good { IfOk result (λ read. AreGoodUnits (memory_in buffers.now) (IsHeldAt (D.disk device.old)) places.now (map (λ r. r.bytes) read)) }
     ensures bad { IfErr result (IsPlacesFail (memory_in buffers.now) (D.disk device.old) places.now) }
     ensures same { D.disk device.new ≡ D.disk device.old }
     ensures later { D.faults device.old ≤ D.faults device.new }

@@ -16,12 +16,12 @@ use Rattle.unit_fields.specs.Prelude.{IsName}
 use Rattle.unit_fields.specs.declared.width.Width.{Width}
 use Rattle.meta_rows.specs.Prelude.{Rows}
 use Rattle.row_format.specs.Prelude.{Place, own}
-use Rattle.store_image.specs.Prelude.{HasOnode, IsPageAt, HasPage}
+use Rattle.store_image.specs.Prelude.{HasOnode, PageUnit, StandsOn, IsPageOn, HasPage}
 use Rattle.unit_allocator.specs.Prelude.{Space}
 use Rattle.plan_drafts.specs.declared.draft.Draft.{Draft}
 use Rattle.plan_rows.specs.declared.plan.Plan.{Plan}
 use Rattle.plan_rows.specs.declared.plan.ReadUnit.{ReadUnit}
-use Rattle.plan_drafts.specs.Prelude.{Edit, fate_of, is_left, needs_old, pages_put, drafted, units_read, place_read, places_read, Layout, HasLayout, or_empty, object_of, or_new, edit_on, draft_after, places_on, CollDraft, at_name, with_op, places_of, IsTaken, AreTaken, draft_of, Begins, AsksFor, Plans}
+use Rattle.plan_drafts.specs.Prelude.{Edit, fate_of, is_left, needs_old, pages_put, drafted, page_unit, place_read, places_read, Layout, HasLayout, or_empty, object_of, or_new, edit_on, draft_after, places_on, CollDraft, at_name, with_op, places_of, IsTaken, AreTaken, draft_of, Begins, AsksFor, Plans}
 
 -- ---- names
 
@@ -95,28 +95,38 @@ module _ (layouts : List ℕ → Option Layout) (d : CollDraft) (kept : AreKept 
 
 -- ---- places
 
--- a page of an object that is there stands at the place
-pub record IsPageOf (w : Width) (rows : Rows) (place : Place) : Type 0 where
+-- a page of an object that is there stands on the unit, and this checksum is kept for it
+pub record IsPageOf (w : Width) (rows : Rows) (on : PageUnit) : Type 0 where
   pub coll : List ℕ
   pub object : List ℕ
   pub page : ℕ
-  pub at : IsPageAt w rows coll object page place
+  pub is_on : IsPageOn w rows coll object page on
   pub size : ℕ
   pub there : HasOnode rows coll object size
 
+pub page_stands : (rows : Rows) (place : Place) → StandsOn rows place (page_unit place)
+page_stands rows (own unit csum) = refl
+
 module _ (w : Width) (rows : Rows) (c : List ℕ) (layouts : List ℕ → Option Layout) (has : (o : List ℕ) → IsName o → HasLayout w rows c o (layouts o)) where
-  page_of_layout : (o : List ℕ) (page : ℕ) (place : Place) → IsName o → finite.get (or_empty (layouts o)).pages page ≡ Some place → IsPageOf w rows place
+  page_of_layout : (o : List ℕ) (page : ℕ) (place : Place) → IsName o → finite.get (or_empty (layouts o)).pages page ≡ Some place → IsPageOf w rows (page_unit place)
   page_of_layout o page place name is = by (layouts o) (has o name) is
     where
-      by : (x : Option Layout) → HasLayout w rows c o x → finite.get (or_empty x).pages page ≡ Some place → IsPageOf w rows place
+      by : (x : Option Layout) → HasLayout w rows c o x → finite.get (or_empty x).pages page ≡ Some place → IsPageOf w rows (page_unit place)
       by None missing is = absurd (let t = sym (finite.get-empty nat_cmp page) ∙ is in cc)
-      by (Some l) stands is = record { coll = c; object = o; page = page; at = (stands.1 page place).0 is; size = l.size; there = stands.0 }
+      by (Some l) stands is = record {
+        coll = c;
+        object = o;
+        page = page;
+        is_on = record { place = place; at = (stands.1 page place).0 is; stands = page_stands rows place };
+        size = l.size;
+        there = stands.0;
+      }
 
   module _ (d : CollDraft) (kept : AreKept layouts d) where
     at_page : (o : List ℕ) (e : Edit) (page : ℕ) → IsName o → AllByRecursion (IsPageOf w rows) (option_to_list (place_read (fate_of e (or_new (d.layout o)) page) (finite.get (or_new (d.layout o)).kept page)))
     at_page o e page name = by (needs_old (fate_of e (or_new (d.layout o)) page)) (finite.get (or_new (d.layout o)).kept page) refl
       where
-        by : (b : Bool) (x : Option Place) → finite.get (or_new (d.layout o)).kept page ≡ x → AllByRecursion (IsPageOf w rows) (option_to_list (cond b x None))
+        by : (b : Bool) (x : Option Place) → finite.get (or_new (d.layout o)).kept page ≡ x → AllByRecursion (IsPageOf w rows) (option_to_list (cond b (option_map page_unit x) None))
         by false x is = tt
         by true None is = tt
         by true (Some place) is = (page_of_layout o page place name (new_kept layouts d kept o page place name is), tt)
@@ -126,7 +136,7 @@ module _ (w : Width) (rows : Rows) (c : List ℕ) (layouts : List ℕ → Option
     at_pages o e name [] = tt
     at_pages o e name (page ∷ pages) = both (option_to_list (place_read (fate_of e (or_new (d.layout o)) page) (finite.get (or_new (d.layout o)).kept page))) _ (at_page o e page name) (at_pages o e name pages)
       where
-        both : (xs ys : List Place) → AllByRecursion (IsPageOf w rows) xs → AllByRecursion (IsPageOf w rows) ys → AllByRecursion (IsPageOf w rows) (xs ++ ys)
+        both : (xs ys : List PageUnit) → AllByRecursion (IsPageOf w rows) xs → AllByRecursion (IsPageOf w rows) ys → AllByRecursion (IsPageOf w rows) (xs ++ ys)
         both [] ys a b = b
         both (x ∷ xs) ys a b = (a.0, both xs ys a.1 b)
 
@@ -165,7 +175,7 @@ module _ (w : Width) (rows : Rows) (c : List ℕ) (layouts : List ℕ → Option
       both (places_on op d) (places_of ops (with_op op d)) (on_places d kept op taken.0)
       (all_places ops (with_op op d) (kept_after layouts d kept op) taken.1)
     where
-      both : (xs ys : List Place) → AllByRecursion (IsPageOf w rows) xs → AllByRecursion (IsPageOf w rows) ys → AllByRecursion (IsPageOf w rows) (xs ++ ys)
+      both : (xs ys : List PageUnit) → AllByRecursion (IsPageOf w rows) xs → AllByRecursion (IsPageOf w rows) ys → AllByRecursion (IsPageOf w rows) (xs ++ ys)
       both [] ys a b = b
       both (x ∷ xs) ys a b = (a.0, both xs ys a.1 b)
 
@@ -178,25 +188,18 @@ kept_first w rows c layouts d begins o x page place name is at = by (layouts o) 
     by None e = absurd cc
     by (Some l) e = let same : draft_of l ≡ x = cc in ap (λ (z : Draft). finite.get z.kept page) same ∙ at
 
-pub asked_places : (w : Width) (change : Change) (rows : Rows) (need : ℕ) (places : List Place) → AsksFor w change rows need places
+pub asked_places : (w : Width) (change : Change) (rows : Rows) (need : ℕ) (places : List PageUnit) → AsksFor w change rows need places
     → AllByRecursion (IsPageOf w rows) places
 asked_places w change rows need places asks = subst (AllByRecursion (IsPageOf w rows)) (sym asks.places_are)
     (all_places w rows change.coll asks.layouts asks.begins.has change.ops asks.start
     (kept_first w rows change.coll asks.layouts asks.start asks.begins) asks.taken)
 
 -- so a page stands on each of their units
-pub units_have_pages : (w : Width) (rows : Rows) (places : List Place) → AllByRecursion (IsPageOf w rows) places
-    → AllByRecursion (HasPage w rows) (flat_map units_read places)
+pub units_have_pages : (w : Width) (rows : Rows) (places : List PageUnit) → AllByRecursion (IsPageOf w rows) places
+    → AllByRecursion (HasPage w rows) (map (λ on. on.unit) places)
 units_have_pages w rows [] all = tt
-units_have_pages w rows (own unit csum ∷ places) all = (
-  record {
-    coll = all.0.coll;
-    object = all.0.object;
-    page = all.0.page;
-    on = record { unit = unit; csum = csum };
-    is_on = record { place = own unit csum; at = all.0.at; stands = refl };
-    is_unit = refl;
-  },
+units_have_pages w rows (on ∷ places) all = (
+  record { coll = all.0.coll; object = all.0.object; page = all.0.page; on = on; is_on = all.0.is_on; is_unit = refl },
   units_have_pages w rows places all.1,
 )
 

@@ -6,7 +6,8 @@ use Rattle.object_model.specs.Prelude.{Change}
 use Rattle.meta_rows.specs.Prelude.{Rows}
 use Rattle.unit_fields.specs.Prelude.{IsName}
 use Rattle.unit_fields.specs.declared.width.Width.{Width}
-use Rattle.row_format.specs.Prelude.{coll_key, Place}
+use Rattle.row_format.specs.Prelude.{coll_key}
+use Rattle.store_image.specs.Prelude.{PageUnit}
 pub use Rattle.plan_rows.specs.Asks.{AreReadAt}
 use Rattle.plan_drafts.specs.Drafts.{CollDraft, with_ops, places_of, AreTaken}
 use Rattle.plan_drafts.specs.declared.draft.Draft.{Draft}
@@ -27,7 +28,7 @@ pub record Begins (w : Width) (rows : Rows) (c : List ℕ) (layouts : List ℕ �
 
 -- A transaction of which each operation is taken asks for so many free units, as many as its operations take one after the other, and for the old
 -- bytes of these places.
-pub record AsksFor (w : Width) (change : Change) (rows : Rows) (need : ℕ) (places : List Place) : Type 0 where
+pub record AsksFor (w : Width) (change : Change) (rows : Rows) (need : ℕ) (places : List PageUnit) : Type 0 where
   pub layouts : List ℕ → Option Layout
   pub start : CollDraft
   pub begins : Begins w rows change.coll layouts start

@@ -10,10 +10,10 @@ use Rattle.object_model.specs.declared.op.Refusal.TheVariants.{NoCollection, Col
 use Rattle.object_model.specs.Prelude.{object_limit, is_same, any_value_long}
 use Rattle.object_model.specs.Effect.{value_limit}
 use Rattle.unit_fields.specs.Prelude.{IsName}
-use Rattle.row_format.specs.Prelude.{Place}
+use Rattle.store_image.specs.Prelude.{PageUnit}
 use Rattle.plan_drafts.specs.declared.draft.Draft.{Draft}
 use Rattle.plan_rows.specs.declared.plan.ReadUnit.{ReadUnit}
-pub use Rattle.plan_rows.specs.Plans.{IsKnownOp, object_of}
+pub use Rattle.plan_rows.specs.Plans.{IsKnownOp, object_of, HasNames}
 pub use Rattle.plan_rows.specs.Asks.{IsOnColl}
 use Rattle.plan_drafts.specs.Edits.{Edit, edit_of, pages_taking, places_read, drafted, Held, writes_of, with_writes}
 use Rattle.plan_rows.specs.Values.{ValueKey, value_after}
@@ -51,14 +51,6 @@ needs_object (OmapRm o keys) = true
 needs_object (OmapRmRange o first last) = true
 needs_object (OmapHeader o value) = true
 needs_object op = false
-
--- the names and keys that it gives are names
-abbrev pub HasNames : Op → Type 0
-HasNames (SetAttr o name value) = IsName name
-HasNames (RmAttr o name) = IsName name
-HasNames (OmapSet o pairs) = AllByRecursion (λ p. IsName p.key) pairs
-HasNames (OmapRm o keys) = AllByRecursion IsName keys
-HasNames op = Unit {0}
 
 -- ---- one object
 
@@ -103,7 +95,7 @@ values_on op d k = value_after op k (d.value (object_of op) k)
 abbrev pub units_on : Op → CollDraft → ℕ
 units_on op d = option_map_or (λ e. length (pages_taking e (or_new (object_before op d)))) (edit_on op (object_before op d)) 0
 
-abbrev pub places_on : Op → CollDraft → List Place
+abbrev pub places_on : Op → CollDraft → List PageUnit
 places_on op d = option_map_or (λ e. places_read e (or_new (object_before op d))) (edit_on op (object_before op d)) []
 
 abbrev pub writes_on : Op → List ReadUnit → Held → CollDraft → List (ℕ × List ℕ)
@@ -133,7 +125,7 @@ with_ops [] d = d
 with_ops (op ∷ ops) d = with_ops ops (with_op op d)
 
 -- the places whose old bytes they need, in the order of operations and pages
-abbrev pub places_of : List Op → CollDraft → List Place
+abbrev pub places_of : List Op → CollDraft → List PageUnit
 places_of [] d = []
 places_of (op ∷ ops) d = places_on op d ++ places_of ops (with_op op d)
 

@@ -1,18 +1,18 @@
 -- What an operation makes of an object's pages while a transaction is planned: which get new bytes, each on a unit, and which become holes.
 use Rattle.std.specs.Prelude.{◌≡◌, ℕ, ◌+◌, ◌/◌, ◌<◌, ◌==◌, ◌&&◌, ◌||◌, nat_lt, not, Bool, true, false, List, [], ◌∷◌, map, filter, Option, Some, None, unwrap_or, if◌then◌else◌}
 use Rattle.std.specs.List.{flat_map}
-use Rattle.std.specs.Option.{option_map_or, option_to_list}
+use Rattle.std.specs.Option.{option_map, option_map_or, option_to_list}
 use Rattle.std.specs.FinMap as finite
 use Rattle.byte_maps.specs.Units.{zeros}
 use Rattle.crc32c_csum.specs.Prelude.{crc32c}
 use Rattle.row_format.specs.Prelude.{Place, own}
-use Rattle.store_image.specs.Prelude.{page_bytes}
+use Rattle.store_image.specs.Prelude.{PageUnit, page_bytes}
 use Rattle.number_map.specs.NumberMap.{NumberMap, is_key_in}
 use Rattle.plan_drafts.specs.declared.draft.Draft.{Draft}
 use Rattle.plan_drafts.specs.declared.fate.Fate.{Fate}
 use Rattle.plan_drafts.specs.declared.fate.Fate.TheVariants.{Stays, Hole, Changed, Takes}
 use Rattle.plan_rows.specs.declared.plan.ReadUnit.{ReadUnit}
-pub use Rattle.plan_rows.specs.Edits.{covers_whole, pages_touched, page_after, Edit, end_of, grown, edit_of, is_cleared, units_read, bytes_read, old_bytes_in, bytes_after, IsInLimits}
+pub use Rattle.plan_rows.specs.Edits.{covers_whole, pages_touched, page_after, Edit, end_of, grown, edit_of, is_cleared, page_unit, bytes_read, old_bytes_in, bytes_after, IsInLimits}
 
 -- ---- pages
 
@@ -84,12 +84,12 @@ pages_put e d = filter (λ page. gets_bytes (fate_of e d page)) (pages_touched e
 abbrev pub pages_taking : Edit → Draft → List ℕ
 pages_taking e d = filter (λ page. takes_unit (fate_of e d page)) (pages_put e d)
 
--- where a page stands, if some of its old bytes stay
-abbrev pub place_read : Fate → Option Place → Option Place
-place_read fate kept = if needs_old fate then kept else None
+-- where a page is read, if some of its old bytes stay
+abbrev pub place_read : Fate → Option Place → Option PageUnit
+place_read fate kept = if needs_old fate then option_map page_unit kept else None
 
--- the places where old bytes are read, in order
-abbrev pub places_read : Edit → Draft → List Place
+-- the places where old bytes are read, in order: each a unit, and the checksum that is kept for its page
+abbrev pub places_read : Edit → Draft → List PageUnit
 places_read e d = flat_map (λ page. option_to_list (place_read (fate_of e d page) (finite.get d.kept page))) (pages_put e d)
 
 -- the units that are released where a page leaves its place: that of the object's own on which it stood
@@ -144,7 +144,7 @@ EndsBelow d end = (page : ℕ) → is_there d page ≡ true → page < end
 -- The pages hold these bytes: the unit of each that stands where it stood holds it, with the checksum that is kept, what was put is to hold
 -- it, and holes are zeros.
 pub record HoldBytes (at : ℕ → List ℕ) (held : Held) (d : Draft) (bytes : List ℕ) : Type 0 where
-  pub kept : (page unit csum : ℕ) → finite.get d.kept page ≡ Some (own unit csum) → finite.get d.puts page ≡ None
-      → (at unit ≡ page_bytes bytes page) × (crc32c (page_bytes bytes page) ≡ csum)
+  pub kept : (page : ℕ) (place : Place) → finite.get d.kept page ≡ Some place → finite.get d.puts page ≡ None
+      → (at (page_unit place).unit ≡ page_bytes bytes page) × (crc32c (page_bytes bytes page) ≡ (page_unit place).csum)
   pub put : (page taking : ℕ) → finite.get d.puts page ≡ Some taking → held taking ≡ page_bytes bytes page
   pub holes : (page : ℕ) → is_there d page ≡ false → page_bytes bytes page ≡ zeros 4096

@@ -6,7 +6,7 @@ use Rattle.meta_rows.specs.Prelude.{Rows}
 use Rattle.meta_log.specs.declared.slot.Super.{Super}
 use Rattle.meta_log.specs.Prelude.{width_of}
 use Rattle.object_model.specs.Prelude.{Change, names_of}
-use Rattle.row_format.specs.Prelude.{Place}
+use Rattle.store_image.specs.Prelude.{PageUnit}
 use Rattle.unit_allocator.specs.Prelude.{Space, free_units}
 use Rattle.plan_rows.specs.declared.plan.Plan.{Plan}
 use Rattle.plan_drafts.specs.Drafts.{IsKnown}
@@ -28,5 +28,5 @@ PlansKeep = (s : Super) (view : Rows) (space : Space) (change : Change) (plan : 
 
 -- And what a transaction asks for is no more than its operations ask for at most, whatever the rows are.
 abbrev pub AsksAreFew : Type 0
-AsksAreFew = (w : Width) (change : Change) (rows : Rows) (need : ℕ) (places : List Place) → AsksFor w change rows need places
+AsksAreFew = (w : Width) (change : Change) (rows : Rows) (need : ℕ) (places : List PageUnit) → AsksFor w change rows need places
     → need ≤ most_units change.ops

@@ -1,17 +1,18 @@
 -- The bytes of objects along the operations of a transaction: each page holds them where it stood, or its unit is to hold them.
 use Rattle.std.proofs.Common.{◌≡◌, ◌≢◌, inl, inr, ℕ, ◌<◌, ◌≤◌, List, [], ◌∷◌, ◌++◌, length, map, Contains, Option, Some, None, Ok, refl, sym, ap, subst, ◌∙◌, arith}
 use Rattle.std.specs.Option.{option_map, option_map_or}
-use Rattle.std.specs.List.{AllByRecursion, flat_map}
+use Rattle.std.specs.List.{AllByRecursion}
 use Rattle.std.specs.FinMap as finite
 use Rattle.std.specs.Ordering.{nat_cmp}
-use Rattle.std.proofs.lemmas.Grind.{flat_map-append}
+use Rattle.std.proofs.lemmas.List.{map-append}
 use Rattle.object_model.specs.declared.op.Op.{Op}
 use Rattle.object_model.specs.Prelude.{Object, Collection, object_limit, effects, ◌>>=◌}
 use Rattle.unit_fields.specs.Prelude.{IsName}
-use Rattle.row_format.specs.Prelude.{Place}
+use Rattle.store_image.specs.Prelude.{PageUnit}
 use Rattle.plan_drafts.specs.declared.draft.Draft.{Draft}
 use Rattle.plan_rows.specs.declared.plan.ReadUnit.{ReadUnit}
-use Rattle.plan_drafts.specs.Prelude.{Edit, edit_of, places_read, drafted, units_read, Held, writes_of, with_writes, HoldBytes, bytes_after, IsInLimits, Layout, object_of, or_new, edit_on, draft_after, places_on, CollDraft, with_op, with_ops, places_of, held_after, held_by, IsTaken, AreTaken}
+use Rattle.plan_drafts.specs.Prelude.{Edit, edit_of, places_read, drafted, Held, writes_of, with_writes, HoldBytes, bytes_after, IsInLimits, Layout, object_of, or_new, edit_on, draft_after, places_on, CollDraft, with_op, with_ops, places_of, held_after, held_by, IsTaken, AreTaken}
+use Rattle.page_edits.specs.Takings.{WereRead}
 use Rattle.plan_proofs.proofs.Lists.{Contains-left, Contains-right}
 use Rattle.plan_proofs.proofs.PageBytes.{no_pages}
 use Rattle.plan_proofs.proofs.Effects.{bytes_of, bytes_on, valued_on, with_bytes, object_on}
@@ -19,11 +20,6 @@ use Rattle.plan_proofs.proofs.Matches.{object_in, Matches, LengthLaw, Leads, lea
 use Rattle.plan_proofs.proofs.Reached.{on_object_or, no_name, within, SameSize, Keeps, Edits, what_becomes, EditLaws, IsReached, layout_cases, x_reached, alone, reached_after}
 
 -- ---- what is known of one edit
-
--- the old bytes of these places were read, and they are what the units hold
-pub record WereRead (at : ℕ → List ℕ) (places : List Place) (read : List ReadUnit) : Type 0 where
-  pub among : (unit : ℕ) → Contains (flat_map units_read places) unit → Contains (map (λ r. r.unit) read) unit
-  pub seen : AllByRecursion (λ r. at r.unit ≡ r.bytes) read
 
 -- what was put is to hold whole pages
 abbrev pub AreWhole : Held → Draft → Type 0
@@ -122,7 +118,7 @@ module _ (laws : EditLaws) (lengths : LengthLaw) (bytes : ByteLaws) (layouts : L
       where
         by : (w : Option Draft) (b : Option Object) → x ≡ w → there ≡ b → SameSize w b → HoldBytes at held (or_new w) (bytes_of b)
         by None None p q e = record {
-          kept = λ page unit csum is none. absurd (let t = sym (finite.get-empty nat_cmp page) ∙ is in cc);
+          kept = λ page place is none. absurd (let t = sym (finite.get-empty nat_cmp page) ∙ is in cc);
           put = λ page taking is. absurd (let t = sym (finite.get-empty nat_cmp page) ∙ is in cc);
           holes = λ page none. no_pages page;
         }
@@ -254,11 +250,15 @@ module _ (laws : EditLaws) (lengths : LengthLaw) (bytes : ByteLaws) (layouts : L
 -- ---- operations
 
 -- what was read of places that stand one behind the other
-front_read : (at : ℕ → List ℕ) (ps qs : List Place) (read : List ReadUnit) → WereRead at (ps ++ qs) read → WereRead at ps read × WereRead at qs read
-front_read at ps qs read were = (
-  record { among = λ unit k. were.among unit (subst (λ us. Contains us unit) (sym (flat_map-append units_read ps qs)) (Contains-left (flat_map units_read ps) (flat_map units_read qs) unit k)); seen = were.seen },
-  record { among = λ unit k. were.among unit (subst (λ us. Contains us unit) (sym (flat_map-append units_read ps qs)) (Contains-right (flat_map units_read ps) (flat_map units_read qs) unit k)); seen = were.seen },
-)
+front_read : (at : ℕ → List ℕ) (ps qs : List PageUnit) (read : List ReadUnit) → WereRead at (ps ++ qs) read → WereRead at ps read × WereRead at qs read
+front_read at ps qs read were =
+    let us : List ℕ = map (λ on. on.unit) ps in
+    let vs : List ℕ = map (λ on. on.unit) qs in
+    let among : (unit : ℕ) → Contains (us ++ vs) unit → Contains (map (λ r. r.unit) read) unit =
+    λ unit k. were.among unit (subst (λ ws. Contains ws unit) (sym (map-append (λ (on : PageUnit). on.unit) ps qs)) k) in (
+      record { among = λ unit k. among unit (Contains-left us vs unit k); seen = were.seen },
+      record { among = λ unit k. among unit (Contains-right us vs unit k); seen = were.seen },
+    )
 
 pub all_hold : (laws : EditLaws) (lengths : LengthLaw) (bytes : ByteLaws) (layouts : List ℕ → Option Layout) (ops : List Op) (d : CollDraft) (k : Option Collection)
     → AreTaken ops d → IsReached layouts d → Matches d k → (read : List ReadUnit) (held : Held) (at : ℕ → List ℕ)

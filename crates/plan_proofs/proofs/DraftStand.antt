@@ -191,7 +191,7 @@ module _ (s : Super) (rows after : Rows) (c : List ℕ) (layouts : List ℕ → 
                 }
             by place e (as_before _ none kept) =
                 let is_own : map.get of.draft.kept page ≡ Some (own on.unit on.csum) = kept ∙ ap Some e in
-                let held_there = hold.kept page on.unit on.csum is_own none in
+                let held_there = hold.kept page (own on.unit on.csum) is_own none in
                 let before : IsPageAt (width_of s) rows c o page (own on.unit on.csum) =
                 (layout_pages s rows c o (layouts o) a.good (a.has o name) page (own on.unit on.csum)).0
                 ((object_reached s rows after c layouts units held y a o of.draft name of.there).kept page (own on.unit on.csum) is_own) in

@@ -13,9 +13,10 @@ use Rattle.row_format.specs.Prelude.{coll_key, onode_key, header_key, Place, own
 use Rattle.row_format.specs.Row as format
 use Rattle.row_format.proofs.Prelude.{same_row, under_attribute, under_header, under_pair}
 use Rattle.store_image.specs.Prelude.{HasKey, HasOnode, HasObject, IsInPlace, NoBadRow, IsHole, pages_of, IsShape, AreObjectBytes, ObjectsStand}
-use Rattle.store_image.proofs.Prelude.{in_place, on_own, own_of}
+use Rattle.store_image.proofs.Prelude.{in_place, own_of}
 use Rattle.plan_drafts.specs.declared.draft.Draft.{Draft}
-use Rattle.plan_drafts.specs.Prelude.{Held, is_there, HoldBytes, Layout, HasLayout, ValueKey, attribute, header, pair, value_key, IsValueKey, not_empty, CollDraft, draft_of, Begins}
+use Rattle.plan_drafts.specs.Prelude.{page_unit, Held, is_there, HoldBytes, Layout, HasLayout, ValueKey, attribute, header, pair, value_key, IsValueKey, not_empty, CollDraft, draft_of, Begins}
+use Rattle.plan_drafts.proofs.Reading.{page_stands}
 use Rattle.object_rows.proofs.GoodPages.{good_page}
 use Rattle.plan_proofs.proofs.Matches.{value_of, Matches}
 use Rattle.plan_proofs.proofs.Reached.{SameSize, IsObjectReached, IsReached}
@@ -189,8 +190,8 @@ module _ (s : Super) (rows : Rows) (good : NoBadRow s rows) (c : List ℕ) (coll
       held_in : (l : Layout) → HasLayout (width_of s) rows c o (Some l) → AreObjectBytes (width_of s) at rows c o b.bytes
           → HoldBytes at held (draft_of l) b.bytes
       held_in l has all = record {
-        kept = λ page unit csum is none.
-            let seen = all.mapped page (record { unit = unit; csum = csum }) (on_own (width_of s) rows c o page unit csum ((has.1 page (own unit csum)).0 is)) in
+        kept = λ page place is none.
+            let seen = all.mapped page (page_unit place) (record { place = place; at = (has.1 page place).0 is; stands = page_stands rows place }) in
             (sym seen.seen, seen.kept);
         put = λ page taking is. nothing page taking is;
         holes = λ page none. all.holes page (hole page none);

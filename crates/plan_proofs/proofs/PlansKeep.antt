@@ -29,7 +29,8 @@ use Rattle.plan_rows.specs.declared.plan.FreshUnit.{FreshUnit}
 use Rattle.plan_rows.specs.declared.plan.Plan.{Plan}
 use Rattle.plan_drafts.specs.Prelude.{Held, CollDraft, with_op, with_ops, places_of, held_by, none_held, Begins, most_units_of, most_units, Stands, HoldsFresh, StandsOnce, fresh_units, Plans, AreFreeOver, IsKeyOfColl, IsKeyIn, IsKeyOfSome, IsOwnedBy, IsGood, Suits, OwnsItsUnits, AreWhole, PlanKeeps, HoldsRead, PlanMakes, PlanTakes, PlansKeep, units_on, AsksAreFew}
 use Rattle.plan_proofs.proofs.DraftBits.{AreTurned, alike, last_was, last_owned, last_left, last_taken, last_gone, last_good, last_exact}
-use Rattle.plan_proofs.proofs.DraftBytes.{ByteLaws, WereRead, AllWhole, all_hold, all_whole}
+use Rattle.page_edits.specs.Takings.{WereRead}
+use Rattle.plan_proofs.proofs.DraftBytes.{ByteLaws, AllWhole, all_hold, all_whole}
 use Rattle.plan_proofs.proofs.DraftRows.{AreDrafted}
 use Rattle.plan_proofs.proofs.DraftStand.{shape_after, stand_after}
 use Rattle.plan_proofs.proofs.DraftStart.{of_layout, reached_first, matches_first, holds_first}

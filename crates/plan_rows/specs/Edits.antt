@@ -6,6 +6,7 @@ use Rattle.object_model.specs.declared.op.Op.{Op}
 use Rattle.object_model.specs.declared.op.Op.TheVariants.{Write, Zero, Truncate}
 use Rattle.object_model.specs.Prelude.{object_limit, overwritten, resized}
 use Rattle.row_format.specs.Prelude.{Place, own}
+use Rattle.store_image.specs.Prelude.{PageUnit}
 use Rattle.plan_rows.specs.declared.plan.ReadUnit.{ReadUnit}
 
 -- ---- ranges of bytes over pages
@@ -58,9 +59,9 @@ is_cleared e page = e.clears && covers_whole e.off (end_of e) page
 
 -- ---- units
 
--- the unit that holds the bytes of a page at this place
-abbrev pub units_read : Place → List ℕ
-units_read (own unit csum) = unit ∷ []
+-- the unit on which a page at this place stands, and the checksum that is kept for it
+abbrev pub page_unit : Place → PageUnit
+page_unit (own unit csum) = record { unit = unit; csum = csum }
 
 -- the old bytes that were read of a unit, or zeros where it wasn't
 abbrev pub bytes_read : List ReadUnit → ℕ → List ℕ
@@ -69,7 +70,7 @@ bytes_read (r ∷ rs) unit = if r.unit == unit then r.bytes else bytes_read rs u
 
 -- the old bytes of a place
 abbrev pub old_bytes_in : List ReadUnit → Place → List ℕ
-old_bytes_in read (own unit csum) = bytes_read read unit
+old_bytes_in read place = bytes_read read (page_unit place).unit
 
 -- ---- bytes
 

@@ -3,6 +3,7 @@ use Rattle.std.specs.Prelude.{◌≡◌, ℕ, ◌<◌, List, [], length, map, An
 use Rattle.std.specs.List.{AllByRecursion}
 use Rattle.object_model.specs.declared.op.Op.{Op}
 use Rattle.object_model.specs.declared.op.Op.TheVariants.{Touch, Write, Zero, Truncate, Remove, SetAttr, RmAttr, RmAttrs, Clone, CloneRange, OmapSet, OmapRm, OmapRmRange, OmapClear, OmapHeader}
+use Rattle.unit_fields.specs.Prelude.{IsName}
 use Rattle.meta_rows.specs.Prelude.{Rows}
 use Rattle.meta_log.specs.declared.slot.Super.{Super}
 use Rattle.meta_log.specs.Prelude.{IsSuper, width_of}
@@ -32,6 +33,14 @@ object_of (OmapRmRange o first last) = o
 object_of (OmapClear o) = o
 object_of (OmapHeader o value) = o
 object_of op = []
+
+-- the names and keys that it gives are names
+abbrev pub HasNames : Op → Type 0
+HasNames (SetAttr o name value) = IsName name
+HasNames (RmAttr o name) = IsName name
+HasNames (OmapSet o pairs) = AllByRecursion (λ p. IsName p.key) pairs
+HasNames (OmapRm o keys) = AllByRecursion IsName keys
+HasNames op = Unit {0}
 
 -- The superblock is within its limits, no row is bad, and each free unit is a data unit that nobody owns and whose bit is 0.
 pub record AreFreeOver (s : Super) (rows : Rows) (space : Space) : Type 0 where

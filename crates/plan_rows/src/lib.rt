@@ -9,4 +9,4 @@ mod laws;
 mod plan;
 
 pub use laws::{agreement, collections_are_apart, the_epoch_is_nothing_to_plans};
-pub use plan::{FreshUnit, Plan, ReadUnit};
+pub use plan::{FreshUnit, PageUnit, Plan, ReadUnit};

@@ -3,6 +3,7 @@
 use byte_maps::Items;
 use bytes::Bytes as SharedBytes;
 use meta_rows::RowOp;
+use std::marker::Model;
 use unit_fields::UnitNo;
 
 /// A unit that a transaction took, and the bytes that are written to it.
@@ -11,6 +12,24 @@ pub struct FreshUnit {
     pub unit: UnitNo,
     /// 4096 bytes, a part of what the transaction's operation has, which it shares: they keep that in memory until its commit.
     pub bytes: SharedBytes,
+}
+
+/// A unit that a page stands on whose old bytes a transaction needs.
+#[derive(Clone, Copy)]
+pub struct PageUnit {
+    pub unit: UnitNo,
+    /// The CRC-32C that is kept for the page.
+    pub csum: u32,
+}
+
+impl Model for PageUnit {
+    ghost use Rattle.store_image.specs.Prelude.{PageUnit};
+
+    ghost Value = { PageUnit };
+
+    ghost view = { λ a. record { unit = a.unit; csum = a.csum } };
+
+    ghost inverse = { λ p. record { unit = p.unit; csum = p.csum } };
 }
 
 /// A unit whose old bytes are in a page that a transaction changes in part.

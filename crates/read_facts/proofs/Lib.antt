@@ -1,5 +1,5 @@
 pub mod Pages
-pub mod Places
+pub mod Units
 pub mod Walks
 pub mod Keys
 pub mod Cut

@@ -11,8 +11,7 @@ use Rattle.object_model.specs.declared.command.Answer.{Answer}
 use Rattle.object_model.specs.declared.command.Answer.TheVariants as answer
 use Rattle.object_model.specs.Prelude.{Objects, read_reply}
 use Rattle.meta_rows.specs.Prelude.{Rows}
-use Rattle.row_format.specs.Prelude.{own}
-use Rattle.store_image.specs.Prelude.{HasOnode, PageUnit, IsPageAt, IsPageOn, HasPage, page_bytes, AreObjectBytes, ObjectsStand}
+use Rattle.store_image.specs.Prelude.{HasOnode, PageUnit, IsPageOn, HasPage, page_bytes, AreObjectBytes, ObjectsStand}
 use Rattle.read_facts.specs.Prelude.{IsHeldAt, IsFound, IsGoodPage, hole, mapped, IsBadPage, IsBadUnit, ReadsRange, FailsAt, HasReadNames, IsAnswerOf}
 use Rattle.read_facts.proofs.Cut.{cut_is}
 use Rattle.read_facts.proofs.Plain.{onode_object, read_given, sum_given, size_is, plain_stat, plain_attr, plain_pair, plain_header, plain_list}
@@ -74,13 +73,13 @@ module _ (w : Width) (memory : ℕ → Option (List ℕ)) (d : Disk) (h : Histor
     none_fails size off len unit kept found f = none_bad (off / 4096 + f.first_bad.index) unit kept found f.first_bad.bad
 
   module _ (objects : Objects) (stand : ObjectsStand w at rows objects) where
-    -- no place of an object's page is on a bad unit
-    pub place_not_bad : (c o : List ℕ) (size page unit kept found : ℕ) → HasOnode rows c o size → IsPageAt w rows c o page (own unit kept)
-        → IsBadUnit memory (IsHeldAt d) unit kept found → ⊥
-    place_not_bad c o size page unit kept found there is_at bad =
+    -- no page of an object is on a bad unit
+    pub unit_not_bad : (c o : List ℕ) (size page unit kept found : ℕ) → HasOnode rows c o size
+        → IsPageOn w rows c o page (record { unit = unit; csum = kept }) → IsBadUnit memory (IsHeldAt d) unit kept found → ⊥
+    unit_not_bad c o size page unit kept found there is_on bad =
         let object = onode_object rows objects stand.shape c o size there in
         none_bad c o object.0.bytes (stand.bytes c o object.0 object.1) page unit kept found (record {
-          is_on = record { place = own unit kept; at = is_at; stands = refl };
+          is_on = is_on;
           not_in_memory = bad.not_in_memory;
           bytes = bad.bytes;
           size = bad.size;

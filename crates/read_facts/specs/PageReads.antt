@@ -5,7 +5,6 @@ use Rattle.unit_fields.specs.declared.width.Width.{Width}
 use Rattle.crc32c_csum.specs.Prelude.{crc32c}
 use Rattle.block_device.specs.Prelude.{HasNoBadDone, Disk, last_at}
 use Rattle.meta_rows.specs.Prelude.{Rows}
-use Rattle.row_format.specs.Prelude.{Place, own}
 use Rattle.store_image.specs.Prelude.{HasOnode, PageUnit, IsPageOn, IsHole, pages_of}
 
 -- the unit holds these bytes, as far as the device tells: those last written there, where no write of it ended badly
@@ -56,17 +55,13 @@ pub record IsFirstBad (w : Width) (memory : ℕ → Option (List ℕ)) (held : �
   pub good : AreGoodPages w memory held rows c o first index before
   pub bad : IsBadPage w memory held rows c o (first + index) unit kept found
 
--- ---- units by their places
+-- ---- units by the checksums that are kept
 
--- the place is good: its unit gives these bytes, with the checksum that is kept for them where it isn't in memory
-abbrev pub IsGoodPlace : (ℕ → Option (List ℕ)) → (ℕ → List ℕ → Type 0) → Place → List ℕ → Type 0
-IsGoodPlace memory held (own unit csum) bytes = IsRead memory held (record { unit = unit; csum = csum }) bytes
-
--- these places are good, and these are their bytes, in order: one list for each
-abbrev pub AreGoodPlaces : (ℕ → Option (List ℕ)) → (ℕ → List ℕ → Type 0) → List Place → List (List ℕ) → Type 0
-AreGoodPlaces memory held [] [] = Unit {0}
-AreGoodPlaces memory held (place ∷ places) (bytes ∷ read) = IsGoodPlace memory held place bytes × AreGoodPlaces memory held places read
-AreGoodPlaces memory held places read = ⊥
+-- these units are good, and these are their bytes, in order: one list for each
+abbrev pub AreGoodUnits : (ℕ → Option (List ℕ)) → (ℕ → List ℕ → Type 0) → List PageUnit → List (List ℕ) → Type 0
+AreGoodUnits memory held [] [] = Unit {0}
+AreGoodUnits memory held (on ∷ units) (bytes ∷ read) = IsRead memory held on bytes × AreGoodUnits memory held units read
+AreGoodUnits memory held units read = ⊥
 
 -- A unit is bad, as a page on it: it isn't in memory and holds bytes whose checksum isn't the one that is kept.
 pub record IsBadUnit (memory : ℕ → Option (List ℕ)) (held : ℕ → List ℕ → Type 0) (unit kept found : ℕ) : Type 0 where
@@ -77,13 +72,14 @@ pub record IsBadUnit (memory : ℕ → Option (List ℕ)) (held : ℕ → List �
   pub is_found : found ≡ crc32c bytes
   pub differs : found ≢ kept
 
--- of the units of these places it is the first bad one
-pub record IsFirstBadUnit (memory : ℕ → Option (List ℕ)) (held : ℕ → List ℕ → Type 0) (places : List Place) (unit kept found : ℕ) : Type 0 where
-  pub front : List Place
-  pub rest : List Place
-  pub is : places ≡ front ++ own unit kept ∷ rest
+-- of these units it is the first bad one
+pub record IsFirstBadUnit (memory : ℕ → Option (List ℕ)) (held : ℕ → List ℕ → Type 0) (units : List PageUnit)
+    (unit kept found : ℕ) : Type 0 where
+  pub front : List PageUnit
+  pub rest : List PageUnit
+  pub is : units ≡ front ++ (record { unit = unit; csum = kept }) ∷ rest
   pub before : List (List ℕ)
-  pub good : AreGoodPlaces memory held front before
+  pub good : AreGoodUnits memory held front before
   pub bad : IsBadUnit memory held unit kept found
 
 -- ---- ranges of bytes

@@ -9,8 +9,7 @@ ghost use Rattle.object_model.specs.Prelude.{Collection, Objects, reply_of, is_r
 ghost use Rattle.object_model.specs.declared.command.Command.TheVariants as ask;
 ghost use Rattle.object_model.specs.declared.command.Read.{Read};
 ghost use Rattle.object_model.specs.declared.command.Answer.{Answer};
-ghost use Rattle.row_format.specs.Prelude.{own};
-ghost use Rattle.store_image.specs.Prelude.{HasOnode, NoBadRow, PageUnit, IsPageAt, IsPageOn, HasPage, IsShape, ObjectsStand};
+ghost use Rattle.store_image.specs.Prelude.{HasOnode, NoBadRow, PageUnit, IsPageOn, HasPage, IsShape, ObjectsStand};
 ghost use Rattle.unit_fields.specs.Prelude.{IsCollName};
 ghost use Rattle.read_facts.specs.Walks.{IsCollection, IsObject, IsNextOf, AreNext, last_of, AreAll};
 ghost use Rattle.read_facts.specs.PageReads.{IsHeldAt, IsFound, IsGoodPage, IsBadPage, AreGoodPages, IsFirstBad, IsBadUnit};
@@ -86,7 +85,7 @@ pub fn reads_are_as_plain_objects()
         → IsAnswerOf w memory (IsHeldAt d) rows read a → a ≡ reply_of (ask.Read read) objects }
 {}
 
-/// So is what a unit with a page is found to hold, and no place of a page of these objects is on a bad unit.
+/// So is what a unit with a page is found to hold, and no page of these objects is on a bad unit.
 pub fn units_are_as_plain_objects()
     ensures found { (w : Width) (memory : ℕ → Option (List ℕ)) (d : Disk) (h : History) (at : ℕ → List ℕ) (rows : Rows) (unit : ℕ)
         (bytes : List ℕ) → d.history ≡ Some h
@@ -97,7 +96,7 @@ pub fn units_are_as_plain_objects()
         (c o : List ℕ) (size page unit kept found : ℕ) → d.history ≡ Some h
         → ((unit : ℕ) → HasPage w rows unit → memory unit ≡ None → HasNoBadDone h.log unit)
         → ((unit : ℕ) → at unit ≡ unwrap_or (memory unit) (last_at h unit)) → ObjectsStand w at rows objects → HasOnode rows c o size
-        → IsPageAt w rows c o page (own unit kept) → ¬ IsBadUnit memory (IsHeldAt d) unit kept found }
+        → IsPageOn w rows c o page (record { unit = unit; csum = kept }) → ¬ IsBadUnit memory (IsHeldAt d) unit kept found }
 {}
 
 /// And a walk shows just these objects, no page of which is bad.

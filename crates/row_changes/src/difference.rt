@@ -32,7 +32,8 @@ fn is_value(held: Option<&Bytes>, value: Option<&Bytes>) -> bool
     ensures { result ≡ is_value (option_copied held.entry) (option_copied value.entry) }
 {
     match (held, value) {
-        (Some(held), Some(value)) => byte_order(held.as_slice(), value.as_slice()) == Ordering::Equal,
+        (Some(held), Some(value)) => byte_order(held.as_slice(), value.as_slice())
+            == Ordering::Equal,
         (None, None) => true,
         _ => false,
     }
@@ -146,10 +147,11 @@ fn put_before<'a>(
     ensures ahead { OnOk result (LieAheadOf rows.now.rows ahead.new held) }
 {
     match held {
-        Some(change) if byte_order(change.key.as_slice(), next.key.as_slice()) != Ordering::Equal => {
-            let value = value_of(rows, ahead, change.key.as_slice());
-            put(ops, value, change)
-        }
+        Some(change) if byte_order(change.key.as_slice(), next.key.as_slice()) != Ordering::Equal =>
+            {
+                let value = value_of(rows, ahead, change.key.as_slice());
+                put(ops, value, change)
+            }
         _ => Ok(()),
     }
 }

@@ -35,12 +35,7 @@ fn write_digits(digits: &mut [u8], bytes: &[u8])
 }
 
 // Adds two digits for each of at most 256 bytes. They are written into this room first, whatever stands there.
-fn push_piece<K: Sink>(
-    text: &mut Printer,
-    out: &mut K,
-    piece: &[u8],
-    room: &mut [u8; 2 * PIECE],
-)
+fn push_piece<K: Sink>(text: &mut Printer, out: &mut K, piece: &[u8], room: &mut [u8; 2 * PIECE])
     requires { length piece.now ≤ 256 }
     ensures { AddsText (hex_text piece.now) text.old text.new (output (K.written out.old) (K.faults out.old)) (output (K.written out.new) (K.faults out.new)) }
 {

@@ -14,7 +14,6 @@ use Rattle.meta_log.specs.Prelude.{width_of}
 use Rattle.meta_store.specs.Store as meta
 use Rattle.unit_allocator.specs.Prelude.{Space, free_units, taken}
 use Rattle.unit_allocator.proofs.FreeUnits.{listed_is_free}
-use Rattle.row_format.specs.Prelude.{Place}
 use Rattle.plan_rows.specs.declared.plan.FreshUnit.{FreshUnit}
 use Rattle.plan_rows.specs.declared.plan.Plan.{Plan}
 use Rattle.plan_rows.specs.declared.plan.ReadUnit.{ReadUnit}
@@ -27,7 +26,7 @@ use Rattle.store_steps.specs.Prelude.{State, CanNote, Accepts, accepted_with, ne
 use Rattle.run_facts.specs.Prelude.{IsKept}
 use Rattle.run_facts.proofs.Prelude.{kept_submitted, kept_free, submitted_short, fresh_not_in_memory}
 use Rattle.object_rows.specs.Stores.{AreRowsOfAStore, AreRowsOfWidth}
-use Rattle.read_facts.specs.Prelude.{IsHeldAt, AreGoodPlaces}
+use Rattle.read_facts.specs.Prelude.{IsHeldAt, AreGoodUnits}
 use Rattle.page_sources.specs.Prelude.{HasPlaceToRead, IsPlacesFail}
 use Rattle.page_sources.specs.declared.parts.PartFail.{PartFail}
 use Rattle.page_sources.specs.declared.parts.PartFail.TheVariants as part
@@ -42,7 +41,7 @@ use Rattle.txn_states.specs.States.{prepared_context}
 use Rattle.waiting_contexts.specs.Places.{IsAboveAll, context_at}
 use Rattle.waiting_contexts.proofs.TiedLemmas.{found_last, not_lost}
 use Rattle.store_kernel.proofs.Sending.{few_between}
-use Rattle.store_image.specs.Prelude.{IsDataUnit}
+use Rattle.store_image.specs.Prelude.{PageUnit, IsDataUnit}
 use Rattle.store_kernel.specs.Prepared.{IsPlanOf, IsPrepared}
 use Rattle.store_kernel.specs.Submitting.{cause_of_plan, cause_of_read, IsCauseOf}
 use Rattle.store_kernel.specs.declared.refused.Cause.{Cause}
@@ -59,17 +58,17 @@ pub rows_of_width : (s : State) (d : Disk) → IsKept s d → CanNote s → AreR
 rows_of_width s d kept can = record { store = rows_of_a_store s d kept can.up; wide = refl }
 
 -- what planning gives is a plan of the submitted rows, over the old bytes that were read of its places
-pub given : (s : State) (d : Disk) (change : Change) (plan : Plan) (memory : ℕ → Option (List ℕ)) (places : List Place) (read : List ReadUnit)
+pub given : (s : State) (d : Disk) (change : Change) (plan : Plan) (memory : ℕ → Option (List ℕ)) (places : List PageUnit) (read : List ReadUnit)
     → IsKept s d → CanNote s → memory ≡ memory_of s → IsPlanFor (width_of s.log.sup) change s.submitted s.space places plan → plan.read ≡ read
-    → AreGoodPlaces memory (IsHeldAt d) places (map (λ r. r.bytes) read) → IsPlanOf change s d plan
+    → AreGoodUnits memory (IsHeldAt d) places (map (λ r. r.bytes) read) → IsPlanOf change s d plan
 given s d change plan memory places read kept can same is read_is good =
     let both = is.plans s.log.sup refl (kept_free s d kept can.up) in
     record {
       not_refused = is.not_refused;
       plans = both.0;
-      read = subst (λ (ps : List Place). IsReadNow s d ps plan) both.1
-          (subst (λ (rs : List ReadUnit). AreGoodPlaces (memory_of s) (IsHeldAt d) places (map (λ r. r.bytes) rs)) (sym read_is)
-          (subst (λ (m : ℕ → Option (List ℕ)). AreGoodPlaces m (IsHeldAt d) places (map (λ r. r.bytes) read)) same good));
+      read = subst (λ (ps : List PageUnit). IsReadNow s d ps plan) both.1
+          (subst (λ (rs : List ReadUnit). AreGoodUnits (memory_of s) (IsHeldAt d) places (map (λ r. r.bytes) rs)) (sym read_is)
+          (subst (λ (m : ℕ → Option (List ℕ)). AreGoodUnits m (IsHeldAt d) places (map (λ r. r.bytes) read)) same good));
     }
 
 -- why there is none: it is refused, units are wanting, or memory is

@@ -5,7 +5,7 @@ use Rattle.object_model.specs.Prelude.{Change}
 use Rattle.object_model.specs.declared.command.Command.{Command}
 use Rattle.object_model.specs.declared.command.Command.TheVariants as ask
 use Rattle.object_model.specs.declared.command.Read.{Read}
-use Rattle.row_format.specs.Prelude.{Place}
+use Rattle.store_image.specs.Prelude.{PageUnit}
 use Rattle.read_facts.specs.Prelude.{IsNotRefused}
 use Rattle.plan_drafts.specs.Prelude.{AsksFor}
 use Rattle.page_sources.specs.Prelude.{HasPlaceToRead}
@@ -16,7 +16,7 @@ use Rattle.store_steps.specs.Prelude.{State, free_count, memory_of}
 pub record ChangeNeedsDevice (change : Change) (s : State) : Type 0 where
   pub not_refused : IsNotRefused s.submitted (ask.Change change)
   pub need : ℕ
-  pub places : List Place
+  pub places : List PageUnit
   pub asks : AsksFor (width_of s.log.sup) change s.submitted need places
   pub enough : need ≤ free_count s.space
   pub to_read : HasPlaceToRead (memory_of s) places

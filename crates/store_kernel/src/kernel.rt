@@ -322,6 +322,23 @@ impl<D: Device> Kernel<D> {
         ensures memory { IsErrOf result StepFail.Memory → TakesMemory step × (self.new.state ≡ self.old.state)
             × (D.disk self.new.device ≡ D.disk self.old.device) }
         ensures later { D.faults self.old.device ≤ D.faults self.new.device }
+        ensures kept { IsKept self.new.state (D.disk self.new.device) }
+    {
+        let made = self.do_step(alloc, step);
+        self.facts();
+        made
+    }
+
+    // Does a ready step.
+    fn do_step(&mut self, alloc: Global, step: Step) -> Result<(), StepFail>
+        requires { is_ready step (D.disk self.old.device).depth self.old.state ≡ true }
+        ensures ok { OnOk result (Does step self.old.state (D.disk self.old.device) self.new.state (D.disk self.new.device)) }
+        ensures fault { IsErrOf result StepFail.Fault → (step ≡ Reap)
+            × Takes self.old.state (D.disk self.old.device) false self.new.state (D.disk self.new.device)
+            × Rose (D.faults self.old.device) (D.faults self.new.device) }
+        ensures memory { IsErrOf result StepFail.Memory → TakesMemory step × (self.new.state ≡ self.old.state)
+            × (D.disk self.new.device ≡ D.disk self.old.device) }
+        ensures later { D.faults self.old.device ≤ D.faults self.new.device }
     {
         match step {
             Step::Data => self.send_data(alloc),

@@ -9,8 +9,8 @@ use Rattle.object_model.specs.declared.command.Answer.{Answer}
 use Rattle.object_model.specs.declared.command.Answer.TheVariants as answer
 use Rattle.meta_rows.specs.Prelude.{rows_after}
 use Rattle.meta_log.specs.Prelude.{unit_count, width_of}
-use Rattle.row_format.specs.Prelude.{Place}
-use Rattle.read_facts.specs.Prelude.{IsHeldAt, AreGoodPlaces, IsFirstBadUnit, IsRefusedBy, IsNotRefused}
+use Rattle.store_image.specs.Prelude.{PageUnit}
+use Rattle.read_facts.specs.Prelude.{IsHeldAt, AreGoodUnits, IsFirstBadUnit, IsRefusedBy, IsNotRefused}
 use Rattle.plan_rows.specs.declared.plan.Plan.{Plan}
 use Rattle.unit_allocator.specs.Prelude.{Space, free_units, taken}
 use Rattle.store_steps.specs.declared.context.Context.{Context}
@@ -70,8 +70,8 @@ pub record CanNote (s : State) : Type 0 where
   pub room : length s.book.entries < entry_limit
 
 -- the old bytes that a plan was made over were read of these places: in memory, unchecked, else from the device, with the checksum that is kept
-abbrev pub IsReadNow : State → Disk → List Place → Plan → Type 0
-IsReadNow s d places plan = AreGoodPlaces (memory_of s) (IsHeldAt d) places (map (λ r. r.bytes) plan.read)
+abbrev pub IsReadNow : State → Disk → List PageUnit → Plan → Type 0
+IsReadNow s d places plan = AreGoodUnits (memory_of s) (IsHeldAt d) places (map (λ r. r.bytes) plan.read)
 
 -- it is accepted: plain objects don't refuse it, units and room suffice, and no place whose old bytes its operations ask for is bad
 pub record Accepts (client line : ℕ) (change : Change) (s : State) (d : Disk) (s' : State) : Type 0 where
@@ -87,7 +87,7 @@ pub record Accepts (client line : ℕ) (change : Change) (s : State) (d : Disk) 
 pub record MeetsBadUnit (change : Change) (s : State) (d : Disk) (unit kept found : ℕ) : Type 0 where
   pub not_refused : IsNotRefused s.submitted (ask.Change change)
   pub need : ℕ
-  pub places : List Place
+  pub places : List PageUnit
   pub asks : AsksFor (width_of s.log.sup) change s.submitted need places
   pub enough : need ≤ free_count s.space
   pub first_bad : IsFirstBadUnit (memory_of s) (IsHeldAt d) places unit kept found
@@ -105,7 +105,7 @@ abbrev pub IsCause : Answer → Change → State → Disk → Type 0
 IsCause (answer.Refused refusal) change s d = IsRefusedBy s.submitted (ask.Change change) refusal
 IsCause (answer.NoSpace need free) change s d =
     IsNotRefused s.submitted (ask.Change change)
-    × ((places : List Place) × AsksFor (width_of s.log.sup) change s.submitted need places) × (free ≡ free_count s.space) × (free < need)
+    × ((places : List PageUnit) × AsksFor (width_of s.log.sup) change s.submitted need places) × (free ≡ free_count s.space) × (free < need)
 IsCause (answer.Csum unit kept found) change s d = MeetsBadUnit change s d unit kept found
 IsCause (answer.MetaFull need room) change s d =
     IsNotRefused s.submitted (ask.Change change) × NeedsRoom change s d need × (room ≡ room_of s.log) × (room < need)

@@ -5,7 +5,7 @@ use Rattle.unit_fields.specs.declared.width.Width.{Width}
 use Rattle.object_model.specs.Prelude.{Change, is_too_large}
 use Rattle.object_model.specs.declared.command.Command.TheVariants as ask
 use Rattle.meta_rows.specs.Prelude.{Rows}
-use Rattle.row_format.specs.Prelude.{Place}
+use Rattle.store_image.specs.Prelude.{PageUnit}
 use Rattle.read_facts.specs.Prelude.{IsNotRefused}
 use Rattle.plan_drafts.specs.Prelude.{Layout, IsKnown, AreRefused, AsksFor}
 use Rattle.unit_allocator.specs.Prelude.{Space, free_units}
@@ -16,7 +16,7 @@ use Rattle.txn_planner.specs.declared.fails.PlanFail.TheVariants as fail
 use Rattle.txn_planner.specs.Planning.{first_draft, IsGround, PlannedTo}
 
 -- where the pages stand whose old bytes the plan needs
-abbrev pub places_in : TxnDraft → List Place
+abbrev pub places_in : TxnDraft → List PageUnit
 places_in draft = draft.planning.places.items
 
 -- Plain objects don't refuse the transaction, all its operations are planned, and these are the lowest free units, one for each taking.

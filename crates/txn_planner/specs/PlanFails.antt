@@ -6,7 +6,7 @@ use Rattle.object_model.specs.declared.command.Command.TheVariants as ask
 use Rattle.meta_rows.specs.Prelude.{Rows}
 use Rattle.meta_log.specs.declared.slot.Super.{Super}
 use Rattle.meta_log.specs.Prelude.{width_of}
-use Rattle.row_format.specs.Prelude.{Place}
+use Rattle.store_image.specs.Prelude.{PageUnit}
 use Rattle.read_facts.specs.Prelude.{IsRefusedBy, IsNotRefused}
 use Rattle.plan_rows.specs.declared.plan.Plan.{Plan}
 use Rattle.unit_allocator.specs.Prelude.{Space}
@@ -24,7 +24,7 @@ plan_fail_of take.Memory = fail.Memory
 
 -- Plain objects of the rows' shape don't refuse the transaction. This is its plan, over the old bytes of these places, where no row is bad and the
 -- free units are owned by nobody: then its operations are the difference of the rows.
-pub record IsPlanFor (w : Width) (change : Change) (rows : Rows) (space : Space) (places : List Place) (plan : Plan) : Type 0 where
+pub record IsPlanFor (w : Width) (change : Change) (rows : Rows) (space : Space) (places : List PageUnit) (plan : Plan) : Type 0 where
   pub not_refused : IsNotRefused rows (ask.Change change)
   pub plans : (s : Super) → width_of s ≡ w → AreFreeOver s rows space
       → (plans : Plans w change rows space plan) × (places ≡ places_of change.ops plans.start)
@@ -33,5 +33,5 @@ pub record IsPlanFor (w : Width) (change : Change) (rows : Rows) (space : Space)
 abbrev pub IsPlanFail : Width → Change → Rows → Space → PlanFail → Type 0
 IsPlanFail w change rows space (fail.Refusal refusal) = IsRefusedBy rows (ask.Change change) refusal
 IsPlanFail w change rows space (fail.NoSpace need free) =
-    IsNotRefused rows (ask.Change change) × ((places : List Place) × AsksFor w change rows need places) × (free ≡ free_count space) × (free < need)
+    IsNotRefused rows (ask.Change change) × ((places : List PageUnit) × AsksFor w change rows need places) × (free ≡ free_count space) × (free < need)
 IsPlanFail w change rows space fail.Memory = Unit {0}

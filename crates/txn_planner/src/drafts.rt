@@ -13,13 +13,12 @@ use crate::laying::changed_rows;
 use crate::planning::Planning;
 use crate::standing::{fresh_units, released_units, standing};
 use crate::steps::plan_op;
-use blob_map::Place;
 use byte_maps::Items;
 use meta_rows::RowTable;
 use object_model::{Refusal, Transaction};
 use object_rows::coll_name_is_one;
 use page_edits::contents;
-use plan_rows::{Plan, ReadUnit};
+use plan_rows::{PageUnit, Plan, ReadUnit};
 use std::alloc::{AllocError, Global};
 use unit_allocator::Allocator;
 use unit_fields::{UnitNo, Width};
@@ -34,8 +33,8 @@ pub struct TxnDraft {
 }
 
 impl TxnDraft {
-    /// Where the pages stand whose old bytes the plan needs, by operation and page.
-    pub fn places(&self) -> &[Place]
+    /// The units that hold the old bytes which the plan needs, by operation and page.
+    pub fn places(&self) -> &[PageUnit]
         ensures { result.now ≡ places_in self.now }
     {
         self.planning.places.as_slice()

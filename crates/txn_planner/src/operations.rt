@@ -1,10 +1,10 @@
 //! Operations, each by itself: the object that it is on, its limits, and what it asks of its object.
 ghost use Rattle.std.specs.Prelude.{◌≡◌, nat_lt, length};
-ghost use Rattle.std.specs.List.{AllByRecursion, list_any};
+ghost use Rattle.std.specs.List.{list_any};
 ghost use Rattle.object_model.specs.Prelude.{any_value_long};
 ghost use Rattle.object_model.specs.Effect.{value_limit};
 ghost use Rattle.unit_fields.specs.Prelude.{IsName};
-ghost use Rattle.plan_drafts.specs.Prelude.{IsOnObject, object_of, is_beyond, needs_object, HasNames};
+ghost use Rattle.plan_drafts.specs.Prelude.{IsOnObject, object_of, is_beyond, needs_object};
 ghost use Rattle.txn_planner.specs.Laying.{is_on_coll};
 
 use byte_maps::Bytes;
@@ -100,32 +100,4 @@ pub fn needs_object(op: &Op) -> bool
             | Op::OmapRmRange { .. }
             | Op::OmapHeader { .. }
     )
-}
-
-fn keys_are_names(pairs: &[Pair])
-    ensures { AllByRecursion (λ p. IsName p.key) pairs.now }
-{
-    for pair in pairs {
-        name_is_one(&pair.key);
-    }
-}
-
-fn are_names(keys: &[Name])
-    ensures { AllByRecursion IsName keys.now }
-{
-    for key in keys {
-        name_is_one(key);
-    }
-}
-
-/// The names and keys that an operation gives are names. It does nothing, for proofs alone.
-pub fn has_names(op: &Op)
-    ensures { HasNames op.now }
-{
-    match op {
-        Op::SetAttr { name, .. } | Op::RmAttr { name, .. } => name_is_one(name),
-        Op::OmapSet { pairs, .. } => keys_are_names(pairs.as_slice()),
-        Op::OmapRm { keys, .. } => are_names(keys.as_slice()),
-        _ => {}
-    }
 }

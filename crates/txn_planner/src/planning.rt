@@ -11,11 +11,11 @@ ghost use Rattle.txn_planner.specs.Touching.{IsTouched};
 ghost use Rattle.txn_planner.specs.Planning.{IsStateOf, first_draft, any_there, HasUntouched, AllTouched};
 
 use crate::touched::{Touched, load};
-use blob_map::Place;
 use byte_maps::{ByteMap, Bytes};
 use meta_rows::RowTable;
 use object_rows::{has_collection, has_onode, next_name};
 use page_edits::PageWrite;
+use plan_rows::PageUnit;
 use row_changes::RowChanges;
 use std::alloc::{AllocError, Global};
 use unit_fields::{CollName, Name, UnitNo, Width};
@@ -32,7 +32,7 @@ pub struct Planning {
     /// The writes of pages, in order.
     pub writes: Vec<PageWrite>,
     /// Where the pages stand whose old bytes these need, in order.
-    pub places: Vec<Place>,
+    pub places: Vec<PageUnit>,
     /// The units that pages have left on which they stood.
     pub left: Vec<UnitNo>,
     /// How many units were taken.

@@ -15,7 +15,7 @@ ghost use Rattle.txn_planner.specs.Steps.{ChangesObject, IsTruncate, OfState, Is
 ghost use Rattle.unit_fields.specs.declared.width.Width.{Width};
 
 use crate::fails::PlanFail;
-use crate::operations::{has_names, is_beyond, needs_object, object_in};
+use crate::operations::{is_beyond, needs_object, object_in};
 use crate::planning::Planning;
 use crate::touched::Touched;
 use blob_map::{PageMap, Place};
@@ -297,7 +297,6 @@ fn plan_on_object(
 {
     check_object(alloc, rows, coll, op, p)?;
     object_in(op);
-    has_names(op);
     change_object(alloc, width, rows, coll, op, at, p)?;
     change_values(alloc, rows, &mut p.values, coll, op)?;
     Ok(())

@@ -1,10 +1,10 @@
 //! The operations on an object's attributes.
 ghost use Rattle.std.specs.Prelude.{OnOk};
 ghost use Rattle.object_model.specs.declared.op.Op.TheVariants.{SetAttr, RmAttr};
+ghost use Rattle.unit_fields.specs.Prelude.{IsName};
 ghost use Rattle.meta_rows.specs.Prelude.{Rows};
 ghost use Rattle.value_changes.specs.Changed.{ChangesValues};
 
-use crate::value_ranges::names_are_names;
 use byte_maps::{Bytes, Duplicate};
 use onode_codec::attr_key;
 use row_changes::RowChanges;
@@ -20,11 +20,10 @@ pub fn set_attr(
     name: &Name,
     value: &Bytes,
 ) -> Result<(), AllocError>
-    ensures { OnOk result ((rows : Rows)
+    ensures names { IsName name.now }
+    ensures changed { OnOk result ((rows : Rows)
         → ChangesValues (SetAttr object.now name.now value.now) rows coll.now object.now changes.old changes.new) }
 {
-    names_are_names(coll, object);
-    let _name = name.as_slice();
     let key = attr_key(alloc, coll, object, name)?;
     let value = value.duplicate(alloc)?;
     changes.set(key, Some(value))
@@ -38,10 +37,9 @@ pub fn rm_attr(
     object: &Name,
     name: &Name,
 ) -> Result<(), AllocError>
-    ensures { OnOk result ((rows : Rows) → ChangesValues (RmAttr object.now name.now) rows coll.now object.now changes.old changes.new) }
+    ensures names { IsName name.now }
+    ensures changed { OnOk result ((rows : Rows) → ChangesValues (RmAttr object.now name.now) rows coll.now object.now changes.old changes.new) }
 {
-    names_are_names(coll, object);
-    let _name = name.as_slice();
     let key = attr_key(alloc, coll, object, name)?;
     changes.set(key, None)
 }

@@ -1,6 +1,6 @@
 //! What an operation makes of an object's values.
 ghost use Rattle.std.specs.Prelude.{OnOk};
-ghost use Rattle.plan_rows.specs.Prelude.{object_of};
+ghost use Rattle.plan_rows.specs.Prelude.{object_of, HasNames};
 ghost use Rattle.value_changes.specs.Changed.{NoneBad, AreOfValues, ChangesValues};
 
 use crate::attr_ops::{rm_attr, set_attr};
@@ -26,7 +26,8 @@ pub fn change_values(
 ) -> Result<(), AllocError>
     requires good { NoneBad rows.now.rows }
     requires of_values { AreOfValues coll.now changes.old }
-    ensures { OnOk result (ChangesValues op.now rows.now.rows coll.now (object_of op.now) changes.old changes.new) }
+    ensures names { OnOk result (HasNames op.now) }
+    ensures changed { OnOk result (ChangesValues op.now rows.now.rows coll.now (object_of op.now) changes.old changes.new) }
 {
     match op {
         Op::SetAttr {

@@ -1,5 +1,6 @@
 //! The operations on an omap's header and its pairs.
 ghost use Rattle.std.specs.Prelude.{◌≡◌, IfOk, OnOk};
+ghost use Rattle.std.specs.List.{AllByRecursion};
 ghost use Rattle.object_model.specs.declared.op.Op.TheVariants.{OmapSet, OmapRm, OmapHeader};
 ghost use Rattle.unit_fields.specs.Prelude.{IsName};
 ghost use Rattle.meta_rows.specs.Prelude.{Rows};
@@ -35,7 +36,6 @@ pub fn set_header(
     ensures { OnOk result ((rows : Rows)
         → ChangesValues (OmapHeader object.now header.now) rows coll.now object.now changes.old changes.new) }
 {
-    names_are_names(coll, object);
     let key = header_key(alloc, coll, object)?;
     let value = header_value(alloc, header)?;
     changes.set(key, value)
@@ -51,7 +51,6 @@ fn set_pair(
     ensures set { OnOk result (changes.new ≡ with_pair coll.now object.now pair.now changes.old) }
     ensures named { OnOk result (IsName pair.now.key) }
 {
-    let _key = pair.key.as_slice();
     let key = omap_key(alloc, coll, object, &pair.key)?;
     let value = pair.value.duplicate(alloc)?;
     changes.set(key, Some(value))
@@ -67,7 +66,6 @@ fn rm_key(
     ensures set { OnOk result (changes.new ≡ without_key coll.now object.now key.now changes.old) }
     ensures named { OnOk result (IsName key.now) }
 {
-    let _key = key.as_slice();
     let key = omap_key(alloc, coll, object, key)?;
     changes.set(key, None)
 }
@@ -80,7 +78,8 @@ pub fn set_pairs(
     object: &Name,
     pairs: &[Pair],
 ) -> Result<(), AllocError>
-    ensures { OnOk result ((rows : Rows) → ChangesValues (OmapSet object.now pairs.now) rows coll.now object.now changes.old changes.new) }
+    ensures names { OnOk result (AllByRecursion (λ p. IsName p.key) pairs.now) }
+    ensures changed { OnOk result ((rows : Rows) → ChangesValues (OmapSet object.now pairs.now) rows coll.now object.now changes.old changes.new) }
 {
     names_are_names(coll, object);
     for pair in pairs {
@@ -97,7 +96,8 @@ pub fn rm_keys(
     object: &Name,
     keys: &[Name],
 ) -> Result<(), AllocError>
-    ensures { OnOk result ((rows : Rows) → ChangesValues (OmapRm object.now keys.now) rows coll.now object.now changes.old changes.new) }
+    ensures names { OnOk result (AllByRecursion IsName keys.now) }
+    ensures changed { OnOk result ((rows : Rows) → ChangesValues (OmapRm object.now keys.now) rows coll.now object.now changes.old changes.new) }
 {
     names_are_names(coll, object);
     for key in keys {

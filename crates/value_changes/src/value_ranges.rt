@@ -29,7 +29,8 @@ fn drop_kind(
     coll: &CollName,
     object: &Name,
 ) -> Result<(), AllocError>
-    ensures { OnOk result (DropsRange rows.now.rows (values_first (kind_byte kind) coll.now object.now)
+    ensures names { AreNames coll.now object.now }
+    ensures drops { OnOk result (DropsRange rows.now.rows (values_first (kind_byte kind) coll.now object.now)
         (values_end (kind_byte kind) coll.now object.now) changes.old changes.new) }
 {
     let first = values_first(alloc, kind, coll, object)?;
@@ -49,7 +50,6 @@ pub fn rm_attrs(
     requires of_values { AreOfValues coll.now changes.old }
     ensures { OnOk result (ChangesValues (RmAttrs object.now) rows.now.rows coll.now object.now changes.old changes.new) }
 {
-    names_are_names(coll, object);
     drop_kind(alloc, rows, changes, ValueKind::Attributes, coll, object)
 }
 
@@ -65,7 +65,6 @@ pub fn clear_omap(
     requires of_values { AreOfValues coll.now changes.old }
     ensures { OnOk result (ChangesValues (OmapClear object.now) rows.now.rows coll.now object.now changes.old changes.new) }
 {
-    names_are_names(coll, object);
     drop_kind(alloc, rows, changes, ValueKind::Omap, coll, object)
 }
 
@@ -84,7 +83,6 @@ pub fn rm_key_range(
     ensures { OnOk result (ChangesValues (OmapRmRange object.now first.now last.now) rows.now.rows coll.now object.now
         changes.old changes.new) }
 {
-    names_are_names(coll, object);
     let first = omap_key(alloc, coll, object, first)?;
     let end = omap_key(alloc, coll, object, last)?;
     changes.drop_range(alloc, rows, first.as_slice(), end.as_slice())

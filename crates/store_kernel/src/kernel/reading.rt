@@ -4,6 +4,7 @@ ghost use Rattle.meta_log.specs.Prelude.{width_of};
 ghost use Rattle.block_device.specs.Prelude.{Rose};
 ghost use Rattle.object_model.specs.declared.command.Answer.{Answer};
 ghost use Rattle.read_facts.specs.Prelude.{IsHeldAt, HasReadNames, IsAnswerOf};
+ghost use Rattle.run_facts.specs.Prelude.{IsKept};
 ghost use Rattle.store_steps.specs.Prelude.{AnswersRead, CanNote, memory_of};
 ghost use Rattle.store_kernel.specs.Reading.{UnansweredBy, IsDeviceRead};
 ghost use Rattle.store_kernel.specs.ToRead.{AskNeedsDevice};
@@ -22,6 +23,27 @@ impl<D: Device> Kernel<D> {
     /// back. A kernel that is down, or whose book is full, and a read that the device or memory fails, leave no entry; it comes
     /// back then. A read sees every transaction that was accepted.
     pub fn ask(
+        &mut self,
+        alloc: Global,
+        client: u32,
+        line: u32,
+        read: Read,
+    ) -> Result<u32, Unanswered>
+        ensures place { IfOk result (λ place. place ≡ length self.old.state.book.entries) }
+        ensures answered { OnOk result ((a : Answer) × AnswersRead client line read a self.old.state (D.disk self.old.device) self.new.state) }
+        ensures unanswered { IfErr result (λ why. UnansweredBy why read self.old.state self.new.state) }
+        ensures disk { D.disk self.new.device ≡ D.disk self.old.device }
+        ensures later { D.faults self.old.device ≤ D.faults self.new.device }
+        ensures cause { IfErr result (λ why. IsDeviceRead why → Rose (D.faults self.old.device) (D.faults self.new.device)) }
+        ensures kept { IsKept self.new.state (D.disk self.new.device) }
+    {
+        let asked = self.do_ask(alloc, client, line, read);
+        self.facts();
+        asked
+    }
+
+    // Answers a read.
+    fn do_ask(
         &mut self,
         alloc: Global,
         client: u32,

@@ -4,6 +4,7 @@ ghost use Rattle.block_device.specs.Prelude.{Rose};
 ghost use Rattle.meta_rows.specs.Prelude.{ops_bytes, AllFit};
 ghost use Rattle.store_steps.specs.Prelude.{IsCause, CanNote, Accepts, Refuses};
 ghost use Rattle.plan_drafts.specs.Prelude.{IsKnown};
+ghost use Rattle.run_facts.specs.Prelude.{IsKept};
 ghost use Rattle.store_kernel.specs.Prepared.{IsPlanOf, IsPrepared};
 ghost use Rattle.store_kernel.specs.Submitting.{IsCauseOf, RefusesBy, IsReadFail};
 
@@ -30,6 +31,28 @@ impl<D: Device> Kernel<D> {
     /// Of pages that change in part the old bytes are read, once the transaction is known to be taken and units suffice for it:
     /// from memory where an accepted transaction isn't committed yet, and else from the device, with their checksum.
     pub fn submit(
+        &mut self,
+        alloc: Global,
+        client: u32,
+        line: u32,
+        txn: Transaction,
+    ) -> Result<u32, Refused>
+        requires { IsKnown txn.ops }
+        ensures place { IfOk result (λ place. place ≡ length self.old.state.book.entries) }
+        ensures accepted { OnOk result (Accepts client line txn self.old.state (D.disk self.old.device) self.new.state) }
+        ensures refused { IfErr result (λ why. RefusesBy why client line txn self.old.state (D.disk self.old.device) self.new.state) }
+        ensures disk { D.disk self.new.device ≡ D.disk self.old.device }
+        ensures later { D.faults self.old.device ≤ D.faults self.new.device }
+        ensures cause { IfErr result (λ why. IsReadFail why → Rose (D.faults self.old.device) (D.faults self.new.device)) }
+        ensures kept { IsKept self.new.state (D.disk self.new.device) }
+    {
+        let submitted = self.do_submit(alloc, client, line, txn);
+        self.facts();
+        submitted
+    }
+
+    // Accepts a transaction, or refuses it.
+    fn do_submit(
         &mut self,
         alloc: Global,
         client: u32,

@@ -47,8 +47,8 @@ returns-clause-prints g c =
             reaped.1.0 walk.result c.has_failed.result c.free_units.result seen.colls walk.ensures.fails seen.walked all,
       ));
       shows = λ sound fresh h objects told stands.
-          rw c.ended-end.ensures (walk_shows _ c.in-Ok.ensures.ok.0 c.in-Ok.ensures.ok.1.0 _ _ c.in-Ok.ensures.ok.1.1 c.facts.ensures.kept
-          c.facts.ensures.durable fresh h objects told stands walk.result c.has_failed.result c.free_units.result seen.colls seen.walked all);
+          rw c.ended-end.ensures (walk_shows _ c.in-Ok.ensures.ok.0 c.in-Ok.ensures.ok.1.0 _ _ c.in-Ok.ensures.ok.1.1 c.in-Ok.ensures.kept
+          c.in-Ok.ensures.keeps fresh h objects told stands walk.result c.has_failed.result c.free_units.result seen.colls seen.walked all);
       printed = seen.printed;
       cut = λ is. sym c.has_failed.ensures ∙ cut_by_sink walk.result c.has_failed.result c.free_units.result (sym c.ended-end.ensures ∙ is);
     }

@@ -11,7 +11,7 @@ returns-clause-works g c =
       run_counted c.run_scripts-ran.result c.free_units.result _ _ _ _ c.run_scripts-ran.ensures.cause c.run_scripts-ran.ensures.read_cause
           c.in-Ok.ensures.later c.unmount-dev.ensures.later,
       runs_and_keeps _ _ _ _ _ _ (works_mounted _ _ _ c.in-Ok.ensures.ok.0 c.in-Ok.ensures.ok.1.0 _ _ _ _ _ _
-          (record { mounted = c.in-Ok.ensures.ok.1.1; kept = c.facts.ensures.kept; durable = c.facts.ensures.durable })
+          (record { mounted = c.in-Ok.ensures.ok.1.1; kept = c.in-Ok.ensures.kept; durable = c.in-Ok.ensures.keeps })
           (record { closed = reaped.0; reaped = reaped.1.0; book_is = reaped.1.1; same = c.unmount-dev.ensures.book })
           c.run_scripts-ran.result c.free_units.result c.run_scripts-ran.ensures.ran c.free_units.ensures),
     ))
@@ -25,7 +25,7 @@ returns-clause-keeps g c sound fresh =
     let reaped = c.unmount-dev.ensures.reaped in
     rw c.ended-end.ensures (ran_keeps _ _ _ _ _ _ fresh (returns-clause-later g c)
     (works_mounted _ _ _ c.in-Ok.ensures.ok.0 c.in-Ok.ensures.ok.1.0 _ _ _ _ _ _
-    (record { mounted = c.in-Ok.ensures.ok.1.1; kept = c.facts.ensures.kept; durable = c.facts.ensures.durable })
+    (record { mounted = c.in-Ok.ensures.ok.1.1; kept = c.in-Ok.ensures.kept; durable = c.in-Ok.ensures.keeps })
     (record { closed = reaped.0; reaped = reaped.1.0; book_is = reaped.1.1; same = c.unmount-dev.ensures.book })
     c.run_scripts-ran.result c.free_units.result c.run_scripts-ran.ensures.ran c.free_units.ensures))
 

@@ -7,12 +7,12 @@ use Rattle.client_runs.proofs.stepping.acknowledge.Goals as goal
 
 pub acknowledged-requires-clause-some : goal.acknowledged-requires-clause-some
 acknowledged-requires-clause-some g c =
-    some_under_way _ _ _ _ _ c.args.clients.now c.facts.ensures.kept c.requires.tied c.next_acknowledged-client.ensures c.in_ok-made.ensures.ok
+    some_under_way _ _ _ _ _ c.args.clients.now c.facts.ensures.kept c.requires.tied c.next_acknowledged-client.ensures c.in_ok-step.ensures.ok
 
 pub returns-clause-tied : goal.returns-clause-tied
 returns-clause-tied g c =
     finish_tied _ _ _ _ _ c.args.clients.now c.acknowledged.new.self c.facts.ensures.kept c.requires.ready c.requires.tied
-    c.next_acknowledged-client.ensures c.in_ok-made.ensures.ok c.facts-2.ensures.kept.always.device c.acknowledged.ensures.counted
+    c.next_acknowledged-client.ensures c.in_ok-step.ensures.ok c.step.ensures.kept.always.device c.acknowledged.ensures.counted
     c.acknowledged.ensures.able
 
 pub returns-clause-left : goal.returns-clause-left

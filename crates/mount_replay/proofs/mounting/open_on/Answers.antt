@@ -27,8 +27,8 @@ returns-in-Err-clause-writes g c = record {
   told = c.in-Err.ensures.only c.requires.found.half c.requires.found.stale;
 }
 
-pub open-requires-clause-kept : goal.open-requires-clause-kept
-open-requires-clause-kept g c =
+pub open-kernel-requires-clause-kept : goal.open-kernel-requires-clause-kept
+open-kernel-requires-clause-kept g c =
     let disk = g.D.Device.disk in
     let old = disk c.args.dev in
     let now = disk c.clear_log.new.dev in
@@ -37,8 +37,8 @@ open-requires-clause-kept g c =
     (opened_kept c.args.found old c.requires.sound c.requires.found c.requires.judged.good c.args.stale.items c.requires.stale c.args.space
     c.in-Ok.events now cleared.later.sound cleared.later.idle cleared.later.units cleared.few c.requires.judged)
 
-pub open-requires-clause-durable : goal.open-requires-clause-durable
-open-requires-clause-durable g c =
+pub open-kernel-requires-clause-durable : goal.open-kernel-requires-clause-durable
+open-kernel-requires-clause-durable g c =
     let disk = g.D.Device.disk in
     let old = disk c.args.dev in
     let now = disk c.clear_log.new.dev in
@@ -53,10 +53,10 @@ returns-clause-ok g c =
     let old = disk c.args.dev in
     let now = disk c.clear_log.new.dev in
     let cleared = c.in-Ok.ensures in
-    let state = c.open.ensures.state ∙ ap (λ (m : Meta). opened (found_of m) c.args.space c.in-Ok.events) c.open-meta.ensures in
-    subst (λ (d : Disk). IsOpenedOn old (with_stale c.args.found c.args.stale.items) c.args.space d c.open.result.state) (sym (ap disk c.open.ensures.device))
+    let state = c.open-kernel.ensures.state ∙ ap (λ (m : Meta). opened (found_of m) c.args.space c.in-Ok.events) c.open-meta.ensures in
+    subst (λ (d : Disk). IsOpenedOn old (with_stale c.args.found c.args.stale.items) c.args.space d c.open-kernel.result.state) (sym (ap disk c.open-kernel.ensures.device))
     (opened_on c.args.found old c.requires.sound c.requires.found c.requires.judged.good c.args.stale.items c.requires.stale c.args.space
-    c.in-Ok.events now c.open.result.state c.requires.judged cleared.later (cleared.only c.requires.found.half c.requires.found.stale)
+    c.in-Ok.events now c.open-kernel.result.state c.requires.judged cleared.later (cleared.only c.requires.found.half c.requires.found.stale)
     (cleared.cleared c.requires.found.half c.requires.found.stale) state)
 
 pub returns-clause-durable : goal.returns-clause-durable
@@ -64,6 +64,6 @@ returns-clause-durable g c =
     let disk = g.D.Device.disk in
     let old = disk c.args.dev in
     let now = disk c.clear_log.new.dev in
-    subst (λ (d : Disk). MountStaysDurable old d) (sym (ap disk c.open.ensures.device))
+    subst (λ (d : Disk). MountStaysDurable old d) (sym (ap disk c.open-kernel.ensures.device))
     (stays_begun c.args.found old c.requires.sound c.requires.found c.requires.judged.good c.args.stale.items c.requires.stale now
     (c.in-Ok.ensures.only c.requires.found.half c.requires.found.stale))

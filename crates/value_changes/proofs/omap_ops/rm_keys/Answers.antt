@@ -5,8 +5,14 @@ use Rattle.unit_fields.specs.Prelude.{IsName}
 use Rattle.value_changes.proofs.Named.{without_keys, keys_gone}
 use Rattle.value_changes.proofs.omap_ops.rm_keys.Goals as goal
 
-pub returns : goal.returns
-returns c rows =
+pub returns-clause-names : goal.returns-clause-names
+returns-clause-names c =
+    let keys = c.args.keys.now in
+    let none : drop c.loop-key.key-index keys ≡ [] = drop_all c.loop-key.key-index keys (omega (arith, c.loop-key-test.false, c.loop-key.auto.key-index-end)) in
+    c.loop-key.invariant.named (subst (AllByRecursion (IsName)) (sym none) tt)
+
+pub returns-clause-changed : goal.returns-clause-changed
+returns-clause-changed c rows =
     let coll = c.args.coll.now in
     let o = c.args.object.now in
     let keys = c.args.keys.now in

@@ -15,6 +15,6 @@ returns c =
     let new = c.set.new.self in
     on_ok c.set.result (new ≡ finite.insert old c.in_ok-key.key c.in_ok-value.value)
     ((rows : Rows) → ChangesValues (OmapHeader o header) rows coll o old new)
-    (λ is rows. header_set rows coll o c.names_are_names.ensures header old new
+    (λ is rows. header_set rows coll o c.header_key.ensures.names header old new
     (is ∙ (λ i. finite.insert old (c.in_ok-key.ensures.key i) (c.in_ok-value.ensures i))))
     c.set.ensures.ok

@@ -6,8 +6,14 @@ use Rattle.unit_fields.specs.Prelude.{IsName}
 use Rattle.value_changes.proofs.Named.{with_pairs, pairs_set}
 use Rattle.value_changes.proofs.omap_ops.set_pairs.Goals as goal
 
-pub returns : goal.returns
-returns c rows =
+pub returns-clause-names : goal.returns-clause-names
+returns-clause-names c =
+    let pairs = c.args.pairs.now in
+    let none : drop c.loop-pair.pair-index pairs ≡ [] = drop_all c.loop-pair.pair-index pairs (omega (arith, c.loop-pair-test.false, c.loop-pair.auto.pair-index-end)) in
+    c.loop-pair.invariant.named (subst (AllByRecursion (λ (p : Pair). IsName p.key)) (sym none) tt)
+
+pub returns-clause-changed : goal.returns-clause-changed
+returns-clause-changed c rows =
     let coll = c.args.coll.now in
     let o = c.args.object.now in
     let pairs = c.args.pairs.now in

@@ -15,4 +15,4 @@ returns c =
     let new = c.drop_kind.new.changes in
     on_ok c.drop_kind.result (DropsRange rows (values_first 0x4d coll o) (values_end 0x4d coll o) old new)
     (ChangesValues (OmapClear o) rows coll o old new)
-    (omap_gone rows coll o c.names_are_names.ensures c.requires.good old new c.requires.of_values) c.drop_kind.ensures
+    (omap_gone rows coll o c.drop_kind.ensures.names c.requires.good old new c.requires.of_values) c.drop_kind.ensures.drops

@@ -15,4 +15,4 @@ returns c =
     let new = c.drop_kind.new.changes in
     on_ok c.drop_kind.result (DropsRange rows (values_first 0x41 coll o) (values_end 0x41 coll o) old new)
     (ChangesValues (RmAttrs o) rows coll o old new)
-    (attrs_gone rows coll o c.names_are_names.ensures c.requires.good old new c.requires.of_values) c.drop_kind.ensures
+    (attrs_gone rows coll o c.drop_kind.ensures.names c.requires.good old new c.requires.of_values) c.drop_kind.ensures.drops

@@ -11,6 +11,7 @@ pub returns : goal.returns
 returns c =
     let rows = c.args.rows.now.rows in
     let coll = c.args.coll.now in
+    let names = c.omap_key.ensures.names in
     let o = c.args.object.now in
     let first = c.args.first.now in
     let last = c.args.last.now in
@@ -20,7 +21,7 @@ returns c =
     let at_last = c.as_slice-2.ensures ∙ c.in_ok-end.ensures.key in
     on_ok c.drop_range.result (DropsRange rows c.as_slice.result.now c.as_slice-2.result.now old new)
     (ChangesValues (OmapRmRange o first last) rows coll o old new)
-    (λ drops. pairs_gone rows coll o c.names_are_names.ensures c.requires.good old new c.requires.of_values first last
+    (λ drops. pairs_gone rows coll o (names.0, names.1) c.requires.good old new c.requires.of_values first last
     (subst (λ (k : List ℕ). DropsRange rows k (omap_key coll o last) old new) at_first
     (subst (λ (k : List ℕ). DropsRange rows c.as_slice.result.now k old new) at_last drops)))
     c.drop_range.ensures

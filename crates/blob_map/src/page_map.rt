@@ -61,6 +61,13 @@ impl PageMap {
         self.pages.insert(page, place)
     }
 
+    /// Makes room for so many pages more that stand somewhere. The map is as it was, also where memory runs out.
+    pub fn reserve(&mut self, more: usize) -> Result<(), AllocError>
+        ensures { self.new ≡ self.old }
+    {
+        self.pages.reserve(more)
+    }
+
     /// Makes a hole of so many pages from the first on, and gives where those stood that weren't holes, ascending. Where memory runs
     /// out the map is as it was.
     pub fn punch(

@@ -139,6 +139,14 @@ impl<V: Drop> NumberMap<V> {
 }
 
 impl<V> NumberMap<V> {
+    /// Makes room for so many keys more, so that the list needn't grow as they are inserted. The map is as it was, also where memory
+    /// runs out.
+    pub fn reserve(&mut self, more: usize) -> Result<(), AllocError>
+        ensures { self.new ≡ self.old }
+    {
+        self.entries.reserve(more)
+    }
+
     /// Takes a key away, and gives the value that it had.
     pub fn take(&mut self, key: u32) -> Option<V>
         ensures was { result ≡ map.get self.old key }

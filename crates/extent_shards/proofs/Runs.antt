@@ -1,7 +1,8 @@
 -- The first of the extents of pages, and the pages that it has.
-use Rattle.std.proofs.Common.{◌≡◌, ℕ, ◌+◌, ◌<◌, ◌≤◌, true, false, cond, List, [], ◌∷◌, ◌++◌, length, get_or, take, drop, refl, sym, ap, subst, ◌∙◌, append_assoc, arith}
+use Rattle.std.proofs.Common.{◌≡◌, ℕ, zero, suc, ◌+◌, ◌-◌, ◌<◌, ◌≤◌, true, false, cond, List, [], ◌∷◌, ◌++◌, length, get_or, take, drop, refl, sym, ap, subst, ◌∙◌, append_assoc, arith}
 use Rattle.std.specs.List.{flat_map}
 use Rattle.std.proofs.lemmas.List.{drop_more, drop_all, take_more, length-take, length-map, map-append, get_or-drop}
+use Rattle.std.proofs.lemmas.List.Concat.{flat_map-cons}
 use Rattle.unit_fields.specs.declared.width.Width.{Width}
 use Rattle.row_format.specs.Prelude.{Body, private, Place, own, extent_bytes, csum_bytes}
 use Rattle.onode_codec.specs.declared.extent.Head.{Head}
@@ -85,12 +86,28 @@ ends_with_all ps h g le =
           ∙ ap (λ l. extent_with h (csums_of (take h.count ps)) ∷ extents_of l) (sym none);
     }
 
-pub run_written : (w : Width) (ps : List (ℕ × Place)) (h : Head) (old mid new : List ℕ) → IsFirstRun ps h → mid ≡ old ++ extent_head h
-    → new ≡ mid ++ flat_map (csum_bytes w) (csums_of (take h.count ps)) → new ≡ old ++ extent_bytes w (extent_with h (csums_of (take h.count ps)))
-run_written w ps h old mid new run head csums =
-    let numbers = flat_map (csum_bytes w) (csums_of (take h.count ps)) in
-    csums ∙ ap (λ l. l ++ numbers) head ∙ append_assoc old (extent_head h) numbers
-    ∙ ap (λ l. old ++ l) (head_then_csums w h (csums_of (take h.count ps)) (count_csums h.count ps run.within))
+-- the first page's checksum, and those of the other pages of the extent
+first_csum : (ps : List (ℕ × Place)) (n : ℕ) (d : ℕ × Place) → 0 < n → n ≤ length ps
+    → csum_of (get_or ps 0 d).1 ∷ csums_of (take (n - 1) (drop 1 ps)) ≡ csums_of (take n ps)
+first_csum ps zero d some within = absurd (omega (arith, some))
+first_csum [] (suc n) d some within = absurd (omega (arith, within))
+first_csum (p ∷ ps) (suc n) d some within =
+    let e : suc n - 1 ≡ n = omega arith in
+    ap (λ k. csum_of p.1 ∷ csums_of (take k ps)) e
+
+pub run_written : (w : Width) (ps : List (ℕ × Place)) (h : Head) (csum count : ℕ) (d : ℕ × Place) (old mid new : List ℕ) → IsFirstRun ps h
+    → count ≡ h.count → csum ≡ csum_of (get_or ps 0 d).1 → mid ≡ old ++ (extent_head h ++ csum_bytes w csum)
+    → new ≡ mid ++ flat_map (csum_bytes w) (csums_of (take (count - 1) (drop 1 ps)))
+    → new ≡ old ++ extent_bytes w (extent_with h (csums_of (take h.count ps)))
+run_written w ps h csum count d old mid new run same is first others =
+    let behind : List ℕ = csums_of (take (h.count - 1) (drop 1 ps)) in
+    let numbers : List ℕ = flat_map (csum_bytes w) behind in
+    let all : csum ∷ behind ≡ csums_of (take h.count ps) = ap (λ (k : ℕ). k ∷ behind) is ∙ first_csum ps h.count d run.some run.within in
+    others ∙ ap (λ n. mid ++ flat_map (csum_bytes w) (csums_of (take (n - 1) (drop 1 ps)))) same
+    ∙ ap (λ (l : List ℕ). l ++ numbers) first ∙ append_assoc old (extent_head h ++ csum_bytes w csum) numbers
+    ∙ ap (λ (l : List ℕ). old ++ l) (append_assoc (extent_head h) (csum_bytes w csum) numbers
+    ∙ ap (λ (l : List ℕ). extent_head h ++ l) (sym (flat_map-cons (csum_bytes w) csum behind) ∙ ap (flat_map (csum_bytes w)) all)
+    ∙ head_then_csums w h (csums_of (take h.count ps)) (count_csums h.count ps run.within))
 
 -- the page behind those of the extent, by its place among the pages behind the first
 pub next_of : (ps rest : List (ℕ × Place)) (h : Head) (i : ℕ) (q : ℕ × Place) → rest ≡ drop 1 ps → h.count ≡ i + 1 → q ≡ get_or rest i q

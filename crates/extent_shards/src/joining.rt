@@ -11,6 +11,9 @@ use onode_codec::Head;
 use std::alloc::{AllocError, Global};
 use unit_fields::{Fields, Width};
 
+// The most bytes that a page takes in a shard's value: those of an extent of one page.
+const PAGE_BYTES: usize = 15;
+
 // The first page of the extents that the value of a shard's row spells, however wide their checksums are.
 fn first_page(value: &[u8]) -> u32
     requires { (width : Width) × IsShardValue width value.now }
@@ -43,12 +46,14 @@ impl JoinedShards {
         }
     }
 
-    /// Adds the shard whose row has this value, with checksums of this width. Where memory runs out, some of its pages are put.
+    /// Adds the shard whose row has this value, with checksums of this width. There is room for its pages before they are put, if each has
+    /// an extent of its own. Where memory runs out, some of its pages are put.
     pub fn add(&mut self, width: Width, value: &[u8]) -> Result<(), AllocError>
         requires { IsShardValue width value.now }
         ensures { OnOk result (AddsShard width value.now self.old.firsts.items self.old.pages self.new.firsts.items self.new.pages) }
     {
         self.firsts.push(first_page(value))?;
+        self.pages.reserve(value.len() / PAGE_BYTES)?;
         put_value(&mut self.pages, width, value)
     }
 }

@@ -2,6 +2,7 @@
 ghost use Rattle.std.specs.Prelude.{◌≡◌, ◌++◌, ◌<◌, ◌≤◌, List, ℕ, length, take, drop, OnOk};
 ghost use Rattle.std.specs.List.{flat_map};
 ghost use Rattle.row_format.specs.Prelude.{csum_bytes, extent_bytes};
+ghost use Rattle.onode_codec.specs.Reading.{extent_head};
 ghost use Rattle.blob_map.specs.Prelude.{follows};
 ghost use Rattle.extent_shards.specs.Values.{extent_with, csums_of, IsFirstRun};
 
@@ -14,14 +15,17 @@ use unit_fields::limits::EXTENT_PAGES;
 /// The bytes of an extent in front of its checksums.
 pub const HEAD_BYTES: usize = 11;
 
-// Whether the page may be the next of the extent with this head.
+// The kind of an extent whose units are the object's own.
+const PRIVATE: u8 = 0;
+
+// Whether the page may be the next of the extent with this head. Where it isn't, mostly the unit is another.
 fn follows(head: &Head, page: u32, place: &Place) -> bool
     ensures { (csums : List ℕ) → length csums ≡ head.now.count → result ≡ follows (extent_with head.now csums) (page, place.now) }
 {
     let count = u64::from(head.count);
-    head.count < EXTENT_PAGES
+    u64::from(place.unit.number()) == u64::from(head.unit.number()) + count
         && u64::from(page) == u64::from(head.first) + count
-        && u64::from(place.unit.number()) == u64::from(head.unit.number()) + count
+        && head.count < EXTENT_PAGES
 }
 
 /// The pages behind so many.
@@ -61,6 +65,21 @@ fn push_csums(out: &mut Vec<u8>, width: Width, pages: &[(u32, Place)]) -> Result
     Ok(())
 }
 
+// Writes the head of an extent and the checksum of its first page at once: most extents have one page where units are scattered.
+fn push_first(out: &mut Vec<u8>, width: Width, head: &Head, csum: u32) -> Result<(), AllocError>
+    ensures { OnOk result (out.new.items ≡ out.old.items ++ (extent_head head.now ++ csum_bytes width csum)) }
+{
+    let [a, b, c, d] = head.first.to_le_bytes();
+    let [low, high] = head.count.to_le_bytes();
+    let [p, q, r, s] = head.unit.number().to_le_bytes();
+    match width {
+        Width::FourBytes => {
+            let [w, x, y, z] = csum.to_le_bytes();
+            out.extend_from_slice(&[a, b, c, d, low, high, PRIVATE, p, q, r, s, w, x, y, z])
+        }
+    }
+}
+
 /// Writes the first of the pages' extents, which has this head, with checksums of this width.
 pub fn push_run(
     out: &mut Vec<u8>,
@@ -71,6 +90,7 @@ pub fn push_run(
     requires { IsFirstRun pages.now head.now }
     ensures { OnOk result (out.new.items ≡ out.old.items ++ extent_bytes width (extent_with head.now (csums_of (take head.now.count pages.now)))) }
 {
-    head.push(out)?;
-    push_csums(out, width, &pages[..usize::from(head.count)])
+    let place = &pages[0].1;
+    push_first(out, width, head, place.csum)?;
+    push_csums(out, width, &pages[1..usize::from(head.count)])
 }

@@ -1,6 +1,7 @@
 //! An object's extents, and their one spelling.
 ghost use Rattle.std.specs.Prelude.{◌≡◌, ◌<◌, ◌≤◌, ◌++◌, List, length, IfOk, OnOk, MatchOption};
 ghost use Rattle.std.specs.List.{flat_map, AllByRecursion};
+ghost use Rattle.std.specs.Int.{w16, w32, from_le_bytes, to_le_bytes};
 ghost use Rattle.unit_fields.specs.Prelude.{bytes_of};
 ghost use Rattle.row_format.specs.Prelude.{csum_bytes, Extent, private, extent_bytes, FitsExtent};
 ghost use Rattle.onode_codec.specs.Reading.{extent_head, BeginsWithNoExtent, ReadsHead, ReadsCsums, ReadsExtent, SpellExtents};
@@ -51,15 +52,32 @@ pub struct Head {
     pub unit: UnitNo,
 }
 
+// The numbers that bytes are, and that spell them.
+fn u16_from_le(bytes: [u8; 2]) -> u16
+    ensures value { result ≡ from_le_bytes w16 bytes }
+    ensures spelled { to_le_bytes w16 result ≡ bytes }
+{
+    u16::from_le_bytes(bytes)
+}
+
+fn u32_from_le(bytes: [u8; 4]) -> u32
+    ensures value { result ≡ from_le_bytes w32 bytes }
+    ensures spelled { to_le_bytes w32 result ≡ bytes }
+{
+    u32::from_le_bytes(bytes)
+}
+
 impl Head {
-    /// The head at the front. None: no extent of 1 to 256 pages stands there, and some of the fields may be read.
+    /// The head at the front. None: no extent of 1 to 256 pages stands there, and the fields may be read.
     pub fn read(fields: &mut Fields) -> Option<Head>
         ensures { MatchOption result ((width : Width) → BeginsWithNoExtent width fields.old) (ReadsHead fields.old fields.new) }
     {
-        let first = fields.u32()?;
-        let count = fields.u16()?;
-        let kind = fields.u8()?;
-        let unit = UnitNo::new(fields.u32()?);
+        let (front, rest) = fields.rest().split_first_chunk::<11>()?;
+        *fields = Fields::new(rest);
+        let [a, b, c, d, low, high, kind, p, q, r, s] = *front;
+        let first = u32_from_le([a, b, c, d]);
+        let count = u16_from_le([low, high]);
+        let unit = UnitNo::new(u32_from_le([p, q, r, s]));
         if kind == PRIVATE && count > 0 && count <= EXTENT_PAGES {
             Some(Head { first, count, unit })
         } else {

@@ -9,7 +9,7 @@ use Rattle.meta_rows.specs.Prelude.{FitsRowOp, AllFit}
 use Rattle.meta_rows.specs.declared.row_op.RowOp.{RowOp}
 use Rattle.meta_rows.specs.declared.row_op.RowOp.TheVariants.{Flip}
 use Rattle.row_format.specs.Prelude.{bitmap_key}
-use Rattle.bitmap_freelist.specs.Bitmap.{Units, Has, IsFlipOfNext, AreFlipsFrom, AreFlips}
+use Rattle.bitmap_freelist.specs.Bitmap.{Units, Has, IsFlipOfNext, AreFlipsFrom, AreFlips, GetFlips}
 use Rattle.bitmap_freelist.specs.Masks.{IsFrontOfRow, mask_of}
 use Rattle.bitmap_freelist.proofs.Bits.{IsIn, mask_of-size, mask_of_are}
 use Rattle.bitmap_freelist.proofs.Sets.{in_set, in_part, in_front, in_back, all_in, ascends_drop, least, behind_row, all_from}
@@ -121,3 +121,29 @@ end units (u ∷ left) ops f none = absurd (omega arith)
 pub fits_on : (ops : List RowOp) (op : RowOp) → AllFit ops → FitsRowOp op → AllFit (ops ++ op ∷ [])
 fits_on [] op all own = (own, tt)
 fits_on (o ∷ ops) op all own = (all.0, fits_on ops op all.1 own)
+
+-- Behind the operations that were there are those of all rows before some one, and these are the units that are left.
+pub record ArePushedTo (units : Units) (left : List ℕ) (old now : List RowOp) : Type 0 where
+  pub flips : List RowOp
+  pub now_is : now ≡ old ++ flips
+  pub flipped : IsFlippedTo units left flips
+  pub fit : AllFit flips
+
+-- before the first one
+pub pushed_none : (units : Units) (us : List ℕ) (old : List RowOp) → set.from_list us ≡ units → Ascends us → ArePushedTo units us old old
+pushed_none units us old is up = record { flips = []; now_is = sym (append-nil old); flipped = start units us is up; fit = tt }
+
+-- with one more row
+pub pushed_on : (units : Units) (left later : List ℕ) (old now next : List RowOp) (op : RowOp) (p : ArePushedTo units left old now)
+    → next ≡ now ++ op ∷ [] → IsFlippedTo units later (p.flips ++ op ∷ []) → FitsRowOp op → ArePushedTo units later old next
+pushed_on units left later old now next op p is flipped fits = record {
+  flips = p.flips ++ op ∷ [];
+  now_is = is ∙ ap (λ (ops : List RowOp). ops ++ op ∷ []) p.now_is ∙ append_assoc old p.flips (op ∷ []);
+  flipped = flipped;
+  fit = fits_on p.flips op p.fit fits;
+}
+
+-- after the last one
+pub pushed_all : (units : Units) (left : List ℕ) (old now : List RowOp) → ArePushedTo units left old now → length left ≡ 0 → GetFlips units old now
+pushed_all units left old now p none =
+    record { flips = p.flips; new_is = p.now_is; are_flips = end units left p.flips p.flipped none; fit = p.fit }

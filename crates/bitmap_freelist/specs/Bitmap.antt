@@ -1,9 +1,9 @@
 -- The rows of the freelist's bitmap, and the row operations that turn bits of it.
-use Rattle.std.specs.Prelude.{◌≡◌, ◌≢◌, ◌↔◌, ◌⊎◌, ℕ, suc, ◌/◌, ◌^◌, ◌<◌, ◌≤◌, false, List, [], ◌∷◌, length, IsTrue, Some}
+use Rattle.std.specs.Prelude.{◌≡◌, ◌≢◌, ◌↔◌, ◌⊎◌, ℕ, suc, ◌/◌, ◌^◌, ◌<◌, ◌≤◌, false, List, [], ◌∷◌, ◌++◌, length, IsTrue, Some}
 use Rattle.std.specs.Ordering.{nat_cmp}
 use Rattle.std.specs.FinMap as map
 use Rattle.std.specs.FinSet as set
-use Rattle.meta_rows.specs.Prelude.{Rows, all_zero}
+use Rattle.meta_rows.specs.Prelude.{Rows, all_zero, AllFit}
 use Rattle.meta_rows.specs.declared.row_op.RowOp.{RowOp}
 use Rattle.meta_rows.specs.declared.row_op.RowOp.TheVariants.{Flip}
 use Rattle.row_format.specs.Prelude.{bitmap_key, bit_in}
@@ -40,6 +40,13 @@ AreFlipsFrom units from (op ∷ ops) = (r : ℕ) × IsFlipOfNext units from r op
 -- the operations that turn exactly the bits of these units: one for each row that has one of them, in the order of the rows
 abbrev pub AreFlips : Units → List RowOp → Type 0
 AreFlips units ops = AreFlipsFrom units 0 ops
+
+-- The operations got those behind them that turn the bits of these units, which can be spelled.
+pub record GetFlips (units : Units) (old new : List RowOp) : Type 0 where
+  pub flips : List RowOp
+  pub new_is : new ≡ old ++ flips
+  pub are_flips : AreFlips units flips
+  pub fit : AllFit flips
 
 -- a row of the table: the bits of 128 units that are below 2 ^ 32
 pub record IsBitmapRow (key value : List ℕ) : Type 0 where

@@ -1,9 +1,9 @@
 //! The row operations that turn units' bits.
-ghost use Rattle.std.specs.Prelude.{◌≡◌, IfOk};
-ghost use Rattle.meta_rows.specs.Prelude.{FitsRowOp, AllFit};
+ghost use Rattle.std.specs.Prelude.{◌≡◌, IfOk, OnOk};
+ghost use Rattle.meta_rows.specs.Prelude.{FitsRowOp};
 ghost use Rattle.meta_rows.specs.declared.row_op.RowOp.TheVariants.{Flip};
 ghost use Rattle.row_format.specs.Prelude.{bitmap_key};
-ghost use Rattle.bitmap_freelist.specs.Bitmap.{AreFlips};
+ghost use Rattle.bitmap_freelist.specs.Bitmap.{GetFlips};
 ghost use Rattle.bitmap_freelist.specs.Masks.{IsFrontOfRow, mask_of};
 
 use byte_maps::Bytes;
@@ -54,14 +54,13 @@ fn flip(alloc: Global, row: u32, units: &[u32]) -> Result<RowOp, AllocError>
     Ok(RowOp::Flip { key, mask })
 }
 
-/// The row operations that turn the bits of these units, from 0 to 1 where they are taken and from 1 to 0 where they are freed: one
+/// Pushes the row operations that turn the bits of these units, from 0 to 1 where they are taken and from 1 to 0 where they are freed: one
 /// for each row that has one of them, in the order of the rows, whose mask has 16 bytes. It looks at each unit twice.
 /// (Ceph: `BitmapFreelistManager::allocate` and `release`, which both are `_xor`.)
-pub fn flip_ops(alloc: Global, units: &UnitSet) -> Result<Vec<RowOp>, AllocError>
-    ensures flips { IfOk result (λ ops. AreFlips units.now ops.items) }
-    ensures fit { IfOk result (λ ops. AllFit ops.items) }
+pub fn push_flips(ops: &mut Vec<RowOp>, units: &UnitSet) -> Result<(), AllocError>
+    ensures { OnOk result (GetFlips units.now ops.old.items ops.new.items) }
 {
-    let mut ops = Vec::new(alloc);
+    let alloc = *ops.allocator();
     let mut left = units.as_slice();
     while let Some(first) = left.first() {
         let row = *first / ROW_UNITS;
@@ -69,5 +68,5 @@ pub fn flip_ops(alloc: Global, units: &UnitSet) -> Result<Vec<RowOp>, AllocError
         ops.push(flip(alloc, row, of_row)?)?;
         left = behind;
     }
-    Ok(ops)
+    Ok(())
 }

@@ -12,7 +12,7 @@ mod flips;
 mod laws;
 mod marks;
 
-pub use flips::flip_ops;
+pub use flips::push_flips;
 pub use laws::{
     flips_change_order, flips_leave_objects, flips_leave_other_rows, flips_stay_in_the_table,
     flips_turn_their_units, flips_twice_restore, good_bitmaps, record_of_flips,

@@ -1,7 +1,7 @@
 //! Operations that turn bits, spelled by hand.
 
 use crate::cases::first_false;
-use bitmap_freelist::flip_ops;
+use bitmap_freelist::push_flips;
 use meta_rows::encode;
 use std::alloc::{AllocError, Global};
 use unit_fields::UnitSet;
@@ -11,7 +11,9 @@ fn spelling(alloc: Global, units: &[u32]) -> Result<Vec<u8>, AllocError> {
     for unit in units {
         set.insert(*unit)?;
     }
-    encode(alloc, &flip_ops(alloc, &set)?)
+    let mut ops = Vec::new(alloc);
+    push_flips(&mut ops, &set)?;
+    encode(alloc, &ops)
 }
 
 const TURNED: &[u8] =

@@ -6,10 +6,10 @@ use Rattle.std.specs.FinSet as set
 use Rattle.std.proofs.lemmas.Bool.{cases_eq}
 use Rattle.std.proofs.lemmas.List.{get_or_default}
 use Rattle.meta_rows.specs.declared.row_op.RowOp.{RowOp}
-use Rattle.bitmap_freelist.specs.Bitmap.{Units, Has, AreFlips}
+use Rattle.bitmap_freelist.specs.Bitmap.{Units, Has, AreFlips, GetFlips}
 use Rattle.bitmap_freelist.proofs.Reading.{has_insert}
 use Rattle.plan_drafts.specs.Prelude.{TurnsBits}
-use Rattle.txn_planner.specs.Turns.{GetsUnits}
+use Rattle.txn_planner.specs.Turns.{GetsUnits, GetTurns}
 
 -- the set got the first i of these units, and no others
 abbrev pub AddsFirst : ℕ → List ℕ → Units → Units → Type 0
@@ -43,3 +43,9 @@ turns_both taken released none some all flips is first second are = record {
       );
   are_flips = are;
 }
+
+-- the same behind operations that are there
+pub gets_both : (taken released : List ℕ) (none some all : Units) (old new : List RowOp) → none ≡ set.empty → GetsUnits taken none some
+    → GetsUnits released some all → GetFlips all old new → GetTurns taken released old new
+gets_both taken released none some all old new is first second got =
+    record { flips = got.flips; new_is = got.new_is; turns = turns_both taken released none some all got.flips is first second got.are_flips }

@@ -6,7 +6,7 @@
 ghost use Rattle.std.specs.Prelude.{map, IfOk};
 ghost use Rattle.txn_planner.specs.Finishing.{AreRowOps};
 
-use crate::turns::turned_bits;
+use crate::turns::turn_bits;
 use byte_maps::Items;
 use meta_rows::{RowOp, RowTable};
 use plan_rows::FreshUnit;
@@ -25,8 +25,7 @@ pub fn row_ops(
 ) -> Result<Items<RowOp>, AllocError>
     ensures { IfOk result (AreRowOps rows.now.rows changes (map (λ f. f.unit) fresh.now) released.now) }
 {
-    let mut flips = turned_bits(alloc, fresh, released)?;
     let mut ops = changes.difference(alloc, rows)?.into_vec();
-    ops.append(&mut flips)?;
+    turn_bits(alloc, &mut ops, fresh, released)?;
     Ok(Items::from_vec(ops))
 }

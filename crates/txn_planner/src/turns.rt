@@ -1,11 +1,10 @@
 //! The operations on the freelist's bitmap that go with a write.
 //!
 //! In Ceph's BlueStore `_txc_finalize_kv` calls `allocate` and `release` of the freelist for the units of a transaction.
-ghost use Rattle.std.specs.Prelude.{map, IfOk, OnOk};
-ghost use Rattle.plan_drafts.specs.Prelude.{TurnsBits};
-ghost use Rattle.txn_planner.specs.Turns.{GetsUnits};
+ghost use Rattle.std.specs.Prelude.{map, OnOk};
+ghost use Rattle.txn_planner.specs.Turns.{GetsUnits, GetTurns};
 
-use bitmap_freelist::flip_ops;
+use bitmap_freelist::push_flips;
 use meta_rows::RowOp;
 use plan_rows::FreshUnit;
 use std::alloc::{AllocError, Global};
@@ -31,16 +30,17 @@ fn insert_fresh(set: &mut UnitSet, fresh: &[FreshUnit]) -> Result<(), AllocError
     Ok(())
 }
 
-/// The operations that turn the bits of the units that a write takes and of those that it releases, each bit once.
-pub fn turned_bits(
+/// Pushes the operations that turn the bits of the units that a write takes and of those that it releases, each bit once.
+pub fn turn_bits(
     alloc: Global,
+    ops: &mut Vec<RowOp>,
     fresh: &[FreshUnit],
     released: &[UnitNo],
-) -> Result<Vec<RowOp>, AllocError>
-    ensures { IfOk result (λ flips. TurnsBits (map (λ f. f.unit) fresh.now) released.now flips.items) }
+) -> Result<(), AllocError>
+    ensures { OnOk result (GetTurns (map (λ f. f.unit) fresh.now) released.now ops.old.items ops.new.items) }
 {
     let mut units = UnitSet::new(alloc);
     insert_fresh(&mut units, fresh)?;
     insert_all(&mut units, released)?;
-    flip_ops(alloc, &units)
+    push_flips(ops, &units)
 }

@@ -34,7 +34,7 @@ for ((i = 0; i < 400; i++)); do echo 'mkcoll 1.0_head'; done | each 'a line that
   for ((i = 0; i < 100; i++)); do printf 'write 1.0_head o%d 0 fill:%02x:4096\n' "$i" "$i"; done
 } | set_up 4096 12000
 for ((i = 0; i < 400; i++)); do printf 'write 1.0_head o%d 0 fill:%02x:4096\n' $((i % 100)) $((i % 256)); done |
-  each 'a page over a page, 100 objects' 43800 400
+  each 'a page over a page, 100 objects' 41900 400
 
 for many in 2000 40000; do
   {
@@ -42,7 +42,7 @@ for many in 2000 40000; do
     for ((i = 0; i < many; i++)); do printf 'write 1.0_head o%06d 0 fill:%02x:4096\n' $((i * 37 % many * 10)) $((i % 256)); done
   } | set_up 65536 200000
   for ((i = 0; i < 200; i++)); do printf 'write 1.0_head o%06d 0 fill:%02x:4096\n' $((i * 97 * many / 2000 % many * 10 + 5)) "$i"; done |
-    each "a page of a new object, among $many" 53800 200
+    each "a page of a new object, among $many" 47100 200
 done
 
 {

@@ -16,6 +16,8 @@ pub mod PutPages
 pub mod Finished
 pub mod SameLayouts
 pub mod ObjectNames
+pub mod SameBytes
+pub mod Besides
 pub mod Cuts
 pub mod ObjectRows
 pub mod ChangedRows

@@ -1,6 +1,7 @@
 -- What changes of the rows of objects come to, key by key.
 use Rattle.std.proofs.Common.{◌≡◌, ◌≢◌, ◌⊎◌, inl, inr, ℕ, ◌<◌, ◌^◌, Bool, true, false, cond, List, [], ◌∷◌, Option, Some, None, refl, sym, ap, subst, ◌∙◌, arith}
 use Rattle.std.specs.Int.{w64, to_le_bytes}
+use Rattle.std.specs.Prelude.{not, ◌&&◌}
 use Rattle.std.specs.List.{AllByRecursion}
 use Rattle.std.specs.Option.{option_map, option_map_or}
 use Rattle.std.specs.FinMap as finite
@@ -25,7 +26,7 @@ use Rattle.extent_shards.proofs.Openings.{HasExtent, all_full, IsOneOf, each_is,
 use Rattle.plan_proofs.proofs.Names.{same_is}
 use Rattle.plan_drafts.specs.Prelude.{Held, Layout, or_empty, IsKeyOf, size_at, ValueKey, attribute, header, pair, value_key, IsKeyOfValue}
 use Rattle.txn_planner.specs.declared.touched.Touched.{Touched}
-use Rattle.txn_planner.specs.Laying.{is_moved, AllNamed, laid_now, openings, without_shard, without_shards, has_value, with_shard, with_shards, cut_of, with_map, is_as_long, with_onode, with_touched, with_objects}
+use Rattle.txn_planner.specs.Laying.{is_moved, AllNamed, laid_now, openings, without_shard, without_shards, has_value, is_single, with_shard, with_shards, cut_of, with_map, is_as_long, with_onode, with_touched, with_objects}
 use Rattle.page_edits.proofs.Lists.{In, all_at}
 use Rattle.txn_planner.proofs.ObjectNames.{left_some, taken_out, left_in}
 use Rattle.txn_planner.proofs.SameLayouts.{tested, Stands, firsts_stand, begins_found}
@@ -139,7 +140,11 @@ of_opening (s ∷ shards) pages page has = elim (of_opening shards (set.insert p
 
 -- ---- shards that come
 
-module _ (w : Width) (rows : Rows) (c o : List ℕ) where
+second : (a b : Bool) → (a && b) ≡ true → b ≡ true
+second true b is = is
+second false b is = absurd (let no = is in cc)
+
+module _ (w : Width) (rows : Rows) (c o : List ℕ) (only : Bool) where
   abbrev either_row : List Extent → ChangeMap → Bool → ChangeMap
   either_row s m b = cond b m (finite.insert m (shard_key c o (first_of s)) (Some (shard_bytes w s)))
 
@@ -153,10 +158,11 @@ module _ (w : Width) (rows : Rows) (c o : List ℕ) where
       ⊎ ((finite.get rows (shard_key c o (first_of s)) ≡ Some (shard_bytes w s))
       × (finite.get new (shard_key c o (first_of s)) ≡ finite.get old (shard_key c o (first_of s))))
 
-  one_comes : (s : List Extent) (m : ChangeMap) → Comes s m (with_shard w rows c o s m)
-  one_comes s m = elim (cases_Bool (has_value (finite.get rows (shard_key c o (first_of s))) (shard_bytes w s))) [
+  one_comes : (s : List Extent) (m : ChangeMap) → Comes s m (with_shard w rows c o only s m)
+  one_comes s m = elim (cases_Bool (not only && has_value (finite.get rows (shard_key c o (first_of s))) (shard_bytes w s))) [
     | inl is ↦ inr (
-      valued (finite.get rows (shard_key c o (first_of s))) (shard_bytes w s) is,
+      valued (finite.get rows (shard_key c o (first_of s))) (shard_bytes w s)
+          (second (not only) (has_value (finite.get rows (shard_key c o (first_of s))) (shard_bytes w s)) is),
       ap (λ b. finite.get (either_row s m b) (shard_key c o (first_of s))) is,
     )
     | inr is ↦ inl (ap (λ b. finite.get (either_row s m b) (shard_key c o (first_of s))) is
@@ -164,8 +170,8 @@ module _ (w : Width) (rows : Rows) (c o : List ℕ) where
   ]
 
   one_other : (s : List Extent) (m : ChangeMap) (key : List ℕ) → (key ≡ shard_key c o (first_of s) → ⊥)
-      → finite.get (with_shard w rows c o s m) key ≡ finite.get m key
-  one_other s m key apart = elim (cases_Bool (has_value (finite.get rows (shard_key c o (first_of s))) (shard_bytes w s))) [
+      → finite.get (with_shard w rows c o only s m) key ≡ finite.get m key
+  one_other s m key apart = elim (cases_Bool (not only && has_value (finite.get rows (shard_key c o (first_of s))) (shard_bytes w s))) [
     | inl is ↦ ap (λ b. finite.get (either_row s m b) key) is
     | inr is ↦ ap (λ b. finite.get (either_row s m b) key) is ∙ get_other m (shard_key c o (first_of s)) (Some (shard_bytes w s)) key apart
   ]
@@ -175,9 +181,9 @@ module _ (w : Width) (rows : Rows) (c o : List ℕ) where
   IsOfShard shards key = (es : List Extent) × IsOneOf shards es × (key ≡ shard_key c o (first_of es))
 
   pub come_others : (shards : List (List Extent)) (m : ChangeMap) (key : List ℕ)
-      → IsOfShard shards key ⊎ (finite.get (with_shards w rows c o shards m) key ≡ finite.get m key)
+      → IsOfShard shards key ⊎ (finite.get (with_shards w rows c o only shards m) key ≡ finite.get m key)
   come_others [] m key = inr refl
-  come_others (s ∷ shards) m key = elim (come_others shards (with_shard w rows c o s m) key) [
+  come_others (s ∷ shards) m key = elim (come_others shards (with_shard w rows c o only s m) key) [
     | inl x ↦ inl (x.0, inr x.1, x.2)
     | inr same ↦ elim (equal_or_not key (shard_key c o (first_of s))) [
       | inl e ↦ inl (s, inl refl, e)
@@ -192,10 +198,10 @@ module _ (w : Width) (rows : Rows) (c o : List ℕ) where
         omega (arith, below, (same_shard c o c o (first_of other) (first_of s) coll name coll name less lt e).2)
 
     pub all_come : (shards : List (List Extent)) → Rise shards → ((es : List Extent) → IsOneOf shards es → first_of es < 2 ^ 32) → (m : ChangeMap)
-        → (es : List Extent) → IsOneOf shards es → Comes es m (with_shards w rows c o shards m)
+        → (es : List Extent) → IsOneOf shards es → Comes es m (with_shards w rows c o only shards m)
     all_come [] rise small m es one = absurd one
-    all_come (s ∷ shards) rise small m es (inl e) = subst (λ z. Comes z m (with_shards w rows c o (s ∷ shards) m)) e
-        (elim (come_others shards (with_shard w rows c o s m) (shard_key c o (first_of s))) [
+    all_come (s ∷ shards) rise small m es (inl e) = subst (λ z. Comes z m (with_shards w rows c o only (s ∷ shards) m)) e
+        (elim (come_others shards (with_shard w rows c o only s m) (shard_key c o (first_of s))) [
           | inl x ↦
               let above = each_is (λ z. EndsBefore s z × (first_of s < first_of z)) shards rise.0 x.0 x.1 in
               absurd (apart_keys s x.0 (small s (inl refl)) (small x.0 (inr x.1)) above.1 (sym x.2))
@@ -206,7 +212,7 @@ module _ (w : Width) (rows : Rows) (c o : List ℕ) where
         ])
     all_come (s ∷ shards) rise small m es (inr later) =
         let above = each_is (λ z. EndsBefore s z × (first_of s < first_of z)) shards rise.0 es later in
-        elim (all_come shards rise.1 (λ z one. small z (inr one)) (with_shard w rows c o s m) es later) [
+        elim (all_come shards rise.1 (λ z one. small z (inr one)) (with_shard w rows c o only s m) es later) [
           | inl new ↦ inl new
           | inr kept ↦ inr (
             kept.0,
@@ -246,7 +252,7 @@ module _ (w : Width) (rows : Rows) (c o : List ℕ) (coll : IsCollName c) (name 
       numbers (first_of es) found.0 found.1
 
   abbrev coming : ChangeMap
-  coming = with_shards w rows c o shards m
+  coming = with_shards w rows c o (is_single shards) shards m
 
   abbrev written : ChangeMap
   written = with_map w rows c o present pages m
@@ -267,7 +273,7 @@ module _ (w : Width) (rows : Rows) (c o : List ℕ) (coll : IsCollName c) (name 
 
   none_comes : (page : ℕ) → page < 2 ^ 32 → shard_at shards page ≡ None
       → finite.get coming (shard_key c o page) ≡ finite.get m (shard_key c o page)
-  none_comes page lt none = elim (come_others w rows c o shards m (shard_key c o page)) [
+  none_comes page lt none = elim (come_others w rows c o (is_single shards) shards m (shard_key c o page)) [
     | inl x ↦
         let same : page ≡ first_of x.0 = (same_shard c o c o page (first_of x.0) coll name coll name lt (small x.0 x.1) x.2).2 in
         absurd (let t = sym none ∙ ap (shard_at shards) same ∙ one_is_at shards rise x.0 x.1 in cc)
@@ -285,8 +291,8 @@ module _ (w : Width) (rows : Rows) (c o : List ℕ) (coll : IsCollName c) (name 
     | inr same ↦ same
   ]
 
-  came : (es : List Extent) → IsOneOf shards es → Comes w rows c o es m written
-  came es one = elim (all_come w rows c o coll name shards rise small m es one) [
+  came : (es : List Extent) → IsOneOf shards es → Comes w rows c o (is_single shards) es m written
+  came es one = elim (all_come w rows c o (is_single shards) coll name shards rise small m es one) [
     | inl new ↦ inl (not_dropped es one ∙ new)
     | inr kept ↦ inr (kept.0, not_dropped es one ∙ kept.1)
   ]
@@ -314,7 +320,7 @@ module _ (w : Width) (rows : Rows) (c o : List ℕ) (coll : IsCollName c) (name 
   pub map_others : (key : List ℕ) → ((page : ℕ) × (page < 2 ^ 32) × (key ≡ shard_key c o page)) ⊎ (finite.get written key ≡ finite.get m key)
   map_others key = elim (drop_others c o (openings shards set.empty) present coming key) [
     | inl x ↦ inl (x.0, all_at (λ page. page < 2 ^ 32) present x.0 below x.1, x.3)
-    | inr kept ↦ elim (come_others w rows c o shards m key) [
+    | inr kept ↦ elim (come_others w rows c o (is_single shards) shards m key) [
       | inl x ↦ inl (first_of x.0, small x.0 x.1, x.2)
       | inr same ↦ inr (kept ∙ same)
     ]

@@ -1,7 +1,7 @@
 -- The end of planning: the rows of objects whose layouts a transaction has changed, over the changes of its values.
-use Rattle.std.specs.Prelude.{◌≡◌, ℕ, ◌<◌, ◌^◌, ◌==◌, ◌||◌, not, Bool, true, false, List, [], ◌∷◌, Option, Some, None, Contains, if◌then◌else◌}
+use Rattle.std.specs.Prelude.{◌≡◌, ℕ, ◌<◌, ◌^◌, ◌==◌, ◌||◌, ◌&&◌, not, Bool, true, false, List, [], ◌∷◌, Option, Some, None, Contains, if◌then◌else◌}
 use Rattle.std.specs.Int.{w64, to_le_bytes}
-use Rattle.std.specs.List.{list_any}
+use Rattle.std.specs.List.{list_any, AllByRecursion}
 use Rattle.std.specs.Option.{option_map, option_map_or}
 use Rattle.std.specs.FinMap as finite
 use Rattle.std.specs.FinSet as set
@@ -11,7 +11,7 @@ use Rattle.object_model.specs.Prelude.{Change, is_same}
 use Rattle.unit_fields.specs.Prelude.{IsName}
 use Rattle.unit_fields.specs.declared.width.Width.{Width}
 use Rattle.meta_rows.specs.Prelude.{Rows}
-use Rattle.row_format.specs.Prelude.{coll_key, onode_key, shard_key, Extent, own}
+use Rattle.row_format.specs.Prelude.{coll_key, onode_key, shard_key, Extent, Place, own}
 use Rattle.bitmap_freelist.specs.Bitmap.{Units}
 use Rattle.blob_map.specs.Prelude.{PageMap, extents_of}
 use Rattle.extent_shards.specs.Prelude.{shard_bytes, shards_of, shard_limit, first_of}
@@ -52,6 +52,16 @@ abbrev pub openings : List (List Extent) → Units → Units
 openings [] pages = pages
 openings (shard ∷ shards) pages = openings shards (set.insert pages (first_of shard))
 
+-- the first of these pages
+abbrev pub first_page : List (ℕ × Place) → Option ℕ
+first_page [] = None
+first_page (p ∷ ps) = Some p.0
+
+-- the first page, if there is one, with others
+abbrev pub with_first : Option ℕ → Units → Units
+with_first None pages = pages
+with_first (Some first) pages = set.insert pages first
+
 -- the shard that begins at a page goes, but for one that comes anew
 abbrev pub without_shard : List ℕ → List ℕ → Units → ℕ → ChangeMap → ChangeMap
 without_shard c o anew page changes = if set.contains anew page then changes else finite.insert changes (shard_key c o page) None
@@ -66,30 +76,46 @@ abbrev pub has_value : Option (List ℕ) → List ℕ → Bool
 has_value None value = false
 has_value (Some held) value = is_same held value
 
--- a shard comes, but for one whose row has its bytes already
-abbrev pub with_shard : Width → Rows → List ℕ → List ℕ → List Extent → ChangeMap → ChangeMap
-with_shard w rows c o shard changes = if has_value (finite.get rows (shard_key c o (first_of shard))) (shard_bytes w shard)
+-- each of these is one of the rows
+abbrev pub AreOfRows : Rows → List (List ℕ × List ℕ) → Type 0
+AreOfRows rows es = AllByRecursion (λ e. finite.get rows e.0 ≡ Some e.1) es
+
+-- the value of the first of them, if it has this key
+abbrev pub first_value : List ℕ → List (List ℕ × List ℕ) → Option (List ℕ)
+first_value key [] = None
+first_value key (e ∷ es) = if is_same e.0 key then Some e.1 else None
+
+-- whether there is one, and no other
+abbrev pub is_single : {X : Type 0} → List X → Bool
+is_single [] = false
+is_single (x ∷ []) = true
+is_single (x ∷ (y ∷ ys)) = false
+
+-- A shard comes, but for one whose row has its bytes already. The row of an only one isn't looked at: its map has changed.
+abbrev pub with_shard : Width → Rows → List ℕ → List ℕ → Bool → List Extent → ChangeMap → ChangeMap
+with_shard w rows c o only shard changes = if not only && has_value (finite.get rows (shard_key c o (first_of shard))) (shard_bytes w shard)
     then changes
     else finite.insert changes (shard_key c o (first_of shard)) (Some (shard_bytes w shard))
 
 -- so do these
-abbrev pub with_shards : Width → Rows → List ℕ → List ℕ → List (List Extent) → ChangeMap → ChangeMap
-with_shards w rows c o [] changes = changes
-with_shards w rows c o (shard ∷ shards) changes = with_shards w rows c o shards (with_shard w rows c o shard changes)
+abbrev pub with_shards : Width → Rows → List ℕ → List ℕ → Bool → List (List Extent) → ChangeMap → ChangeMap
+with_shards w rows c o only [] changes = changes
+with_shards w rows c o only (shard ∷ shards) changes = with_shards w rows c o only shards (with_shard w rows c o only shard changes)
 
 -- the shards of a map
 abbrev pub cut_of : Width → PageMap → List (List Extent)
 cut_of w pages = shards_of w (Some shard_limit) (extents_of (finite.entries pages))
 
--- the shards of extents come, and begin at these pages
-pub record ArePut (w : Width) (rows : Rows) (c o : List ℕ) (es : List Extent) (anew : Units) (changes changes' : ChangeMap) : Type 0 where
-  pub begin : anew ≡ openings (shards_of w (Some shard_limit) es) set.empty
-  pub come : changes' ≡ with_shards w rows c o (shards_of w (Some shard_limit) es) changes
+-- the shards of pages come, and begin at the first of them and at these
+pub record ArePut (w : Width) (rows : Rows) (c o : List ℕ) (ps : List (ℕ × Place)) (behind : Units) (changes changes' : ChangeMap) : Type 0 where
+  pub begin : with_first (first_page ps) behind ≡ openings (shards_of w (Some shard_limit) (extents_of ps)) set.empty
+  pub come : changes'
+      ≡ with_shards w rows c o (is_single (shards_of w (Some shard_limit) (extents_of ps))) (shards_of w (Some shard_limit) (extents_of ps)) changes
 
 -- an object with shards at these pages gets a map: its shards come, and those go that begin where none of them does
 abbrev pub with_map : Width → Rows → List ℕ → List ℕ → List ℕ → PageMap → ChangeMap → ChangeMap
 with_map w rows c o present pages changes = without_shards c o (openings (cut_of w pages) set.empty) present
-    (with_shards w rows c o (cut_of w pages) changes)
+    (with_shards w rows c o (is_single (cut_of w pages)) (cut_of w pages) changes)
 
 -- whether an object is as long as it was, or missing as it was
 abbrev pub is_as_long : Option ℕ → Option ℕ → Bool
@@ -107,6 +133,11 @@ abbrev pub with_touched : Width → Rows → List ℕ → List ℕ → Held → 
 with_touched w rows c units held o t changes = if is_moved t.left t.now
     then with_map w rows c o t.shards.items (or_empty (laid_now units held t)).pages (with_onode c o t.before (size_at (laid_now units held t)) changes)
     else with_onode c o t.before (size_at (laid_now units held t)) changes
+
+-- the first of these names
+abbrev pub first_of_names : List (List ℕ) → Option (List ℕ)
+first_of_names [] = None
+first_of_names (o ∷ names) = Some o
 
 -- so do those with these names, each taken out of them
 abbrev pub with_objects : Width → Rows → List ℕ → List ℕ → Held → List (List ℕ) → ByteMap Touched → ChangeMap → ChangeMap

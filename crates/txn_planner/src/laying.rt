@@ -2,25 +2,17 @@
 //!
 //! An onode is written where the object is longer or shorter than it was. Where one of its pages has come, gone or moved, its map is cut
 //! into shards anew, and of these the ones are written whose bytes aren't those of the row that is there.
-ghost use Rattle.std.specs.Prelude.{◌≡◌, ◌≤◌, ℕ, List, Option, length, option_copied, IfOk, OnOk};
+ghost use Rattle.std.specs.Prelude.{◌≡◌, ◌≤◌, ℕ, Option, length, IfOk, OnOk};
 ghost use Rattle.std.specs.Option.{option_map};
 ghost use Rattle.std.specs.FinMap as finite;
-ghost use Rattle.unit_fields.specs.declared.width.Width.{Width};
-ghost use Rattle.row_format.specs.Prelude.{Extent, coll_key};
-ghost use Rattle.blob_map.specs.Prelude.{extents_of};
-ghost use Rattle.extent_shards.specs.Prelude.{shard_bytes, first_of};
+ghost use Rattle.row_format.specs.Prelude.{coll_key};
 ghost use Rattle.plan_drafts.specs.Prelude.{or_empty, laid};
 ghost use Rattle.page_edits.specs.Writes.{held_in};
 ghost use Rattle.txn_planner.specs.Laying.{
   PutsBelow,
   AllTakeBelow,
   AllNamed,
-  without_shard,
-  without_shards,
-  has_value,
-  with_shard,
-  ArePut,
-  with_map,
+  first_of_names,
   is_as_long,
   with_onode,
   with_touched,
@@ -31,21 +23,20 @@ ghost use Rattle.txn_planner.specs.Laying.{
 
 use crate::operations::is_any_on_coll;
 use crate::planning::Planning;
+use crate::shard_rows::put_map;
 use crate::touched::Touched;
-use blob_map::{PageMap, Place};
-use byte_maps::{ByteMap, Bytes, byte_order};
+use blob_map::PageMap;
+use byte_maps::{ByteMap, Bytes};
 use bytes::Bytes as SharedBytes;
-use extent_shards::{SHARD_BYTES, pages_behind, push_shard};
 use meta_rows::RowTable;
 use object_model::Transaction;
 use object_rows::coll_name_is_one;
-use onode_codec::{Onode, coll_key, onode_key, shard_key};
+use onode_codec::{Onode, coll_key, onode_key};
 use page_edits::lay;
 use plan_drafts::Draft;
 use row_changes::RowChanges;
 use std::alloc::{AllocError, Global};
-use std::cmp::Ordering;
-use unit_fields::{CollName, Name, UnitNo, UnitSet, Width};
+use unit_fields::{CollName, Name, UnitNo, Width};
 
 // ---- one object
 
@@ -64,40 +55,6 @@ fn lay_pages(
         Some(draft) => lay(draft, units, contents),
         None => Ok(PageMap::new(alloc)),
     }
-}
-
-// The shard that begins at this page goes, but for one that comes anew.
-fn drop_shard(
-    alloc: Global,
-    coll: &CollName,
-    object: &Name,
-    anew: &UnitSet,
-    page: u32,
-    changes: &mut RowChanges,
-) -> Result<(), AllocError>
-    ensures { OnOk result (changes.new ≡ without_shard coll.now object.now anew.now page changes.old) }
-{
-    if anew.contains(page) {
-        return Ok(());
-    }
-    changes.set(shard_key(alloc, coll, object, page)?, None)
-}
-
-// So do those that begin at these pages.
-fn drop_shards(
-    alloc: Global,
-    coll: &CollName,
-    object: &Name,
-    anew: &UnitSet,
-    pages: &[u32],
-    changes: &mut RowChanges,
-) -> Result<(), AllocError>
-    ensures { OnOk result (changes.new ≡ without_shards coll.now object.now anew.now pages.now changes.old) }
-{
-    for page in pages {
-        drop_shard(alloc, coll, object, anew, *page, changes)?;
-    }
-    Ok(())
 }
 
 // Whether the object is as long as it was, or missing as it was.
@@ -135,87 +92,6 @@ fn put_onode(
     }
 }
 
-// Whether a row has this value.
-fn has_value(held: Option<&Bytes>, value: &[u8]) -> bool
-    ensures { result ≡ has_value (option_copied held.entry) value.now }
-{
-    match held {
-        Some(held) => byte_order(held.as_slice(), value) == Ordering::Equal,
-        None => false,
-    }
-}
-
-// The shard with this value comes, but for one whose row has it already. The value is copied where it is new.
-fn put_shard(
-    alloc: Global,
-    rows: &RowTable,
-    coll: &CollName,
-    object: &Name,
-    first: u32,
-    value: &[u8],
-    changes: &mut RowChanges,
-) -> Result<(), AllocError>
-    ensures { OnOk result ((width : Width) (shard : List Extent) → first_of shard ≡ first → value.now ≡ shard_bytes width shard
-        → changes.new ≡ with_shard width rows.now.rows coll.now object.now shard changes.old) }
-{
-    let key = shard_key(alloc, coll, object, first)?;
-    if has_value(rows.get(key.as_slice()), value) {
-        return Ok(());
-    }
-    let value = Bytes::from_slice(alloc, value)?;
-    changes.set(key, Some(value))
-}
-
-// The shards of these pages come, cut with the bound, each from one buffer. They begin at these pages.
-fn put_shards(
-    alloc: Global,
-    width: Width,
-    rows: &RowTable,
-    coll: &CollName,
-    object: &Name,
-    pages: &[(u32, Place)],
-    changes: &mut RowChanges,
-) -> Result<UnitSet, AllocError>
-    ensures { IfOk result (λ anew. ArePut width rows.now.rows coll.now object.now (extents_of pages.now) anew changes.old changes.new) }
-{
-    let mut anew = UnitSet::new(alloc);
-    let mut value = Vec::new(alloc);
-    let mut left = pages;
-    'shards: while !left.is_empty() {
-        value.clear();
-        let front = push_shard(&mut value, width, left, SHARD_BYTES)?;
-        put_shard(
-            alloc,
-            rows,
-            coll,
-            object,
-            front.first,
-            value.as_slice(),
-            changes,
-        )?;
-        anew.insert(front.first)?;
-        left = pages_behind(left, front.count);
-    }
-    Ok(anew)
-}
-
-// An object with shards at these pages gets this map: its shards are those of the map, cut with the bound.
-fn put_map(
-    alloc: Global,
-    width: Width,
-    rows: &RowTable,
-    coll: &CollName,
-    object: &Name,
-    present: &[u32],
-    pages: &PageMap,
-    changes: &mut RowChanges,
-) -> Result<(), AllocError>
-    ensures { OnOk result (changes.new ≡ with_map width rows.now.rows coll.now object.now present.now pages.now changes.old) }
-{
-    let anew = put_shards(alloc, width, rows, coll, object, pages.pages(), changes)?;
-    drop_shards(alloc, coll, object, &anew, present, changes)
-}
-
 // An object that was looked at gets its rows: its onode by its size alone, and its shards by its map alone.
 fn put_touched(
     alloc: Global,
@@ -251,22 +127,21 @@ fn put_touched(
 
 // ---- all objects
 
-// The names of the objects that were looked at.
-fn names_of(alloc: Global, objects: &ByteMap<Touched>) -> Result<Vec<Name>, AllocError>
+// The first name of the objects that were looked at.
+fn first_name(alloc: Global, objects: &ByteMap<Touched>) -> Result<Option<Name>, AllocError>
     requires { AllNamed objects.now }
-    ensures { IfOk result (λ names. names.items ≡ finite.keys objects.now) }
+    ensures { IfOk result (λ name. name ≡ first_of_names (finite.keys objects.now)) }
 {
-    let mut names = Vec::new(alloc);
-    for (name, _) in objects.entries() {
-        let Some(name) = Name::read(alloc, name.as_slice())? else {
-            unreachable!();
-        };
-        names.push(name)?;
+    match objects.entries().first() {
+        Some((name, _)) => match Name::read(alloc, name.as_slice())? {
+            Some(name) => Ok(Some(name)),
+            None => unreachable!(),
+        },
+        None => Ok(None),
     }
-    Ok(names)
 }
 
-// Each of them gets its rows.
+// Each of them gets its rows, by the order of their names.
 fn put_objects(
     alloc: Global,
     width: Width,
@@ -283,13 +158,13 @@ fn put_objects(
     ensures { OnOk result (changes.new
         ≡ with_objects width rows.now.rows coll.now units.now (held_in contents.now) (finite.keys objects) objects changes.old) }
 {
-    let names = names_of(alloc, &objects)?;
-    for name in names.as_slice() {
+    'names: while let Some(name) = first_name(alloc, &objects)? {
         if let Some(touched) = objects.take(name.as_slice()) {
             put_touched(
-                alloc, width, rows, coll, name, touched, units, contents, changes,
+                alloc, width, rows, coll, &name, touched, units, contents, changes,
             )?;
         }
+        drop(name);
     }
     Ok(())
 }

@@ -20,6 +20,7 @@ mod finishing;
 mod laying;
 mod operations;
 mod planning;
+mod shard_rows;
 mod standing;
 mod steps;
 mod touched;

@@ -4,11 +4,12 @@
 With the words `below NAME --jobs N` it proves the libraries that a crate stands on, each as soon as those below it are proved, at
 most N at a time: rt gives each one processor, or does one after the other. Those with the longest chains of crates above them may
 use all N processors, since nothing is done before these chains are, and those that can wait give way to them. What another clone on
-this machine has built of the same text is taken over.
+this machine has built of the same text is taken over, if the kit does so.
 
 With `program NAME --jobs N` it proves a program and all that it stands on as the gate does, and builds it: from nothing, each crate over
 the statements of those below it and not over their proofs, which takes half as long; but a crate that changes is proved anew as a whole
-then, and so is each one above it. What an earlier run of this or of the gate proved on this machine, over the same files, is taken over.
+then, and so is each one above it. What an earlier run of this or of the gate proved on this machine, over the same files, is taken over,
+if the kit keeps it.
 
 rt knows by a stamp whether a library is as it was: a sum of its sources and of the stamps of all libraries that it names. It
 reckons each of them anew wherever one is named, which for the program bstore takes longer than the proofs. Here the stamp of a
@@ -87,22 +88,54 @@ def named(crates, name):
     return next(it for it in crates if it.name == name)
 
 
-def prove_below(kit, name, most):
-    """Proves what a crate stands on, as libraries over which a check goes on."""
+def offer_built(kit, crates):
+    """Offers the libraries that are built to other clones, where the kit shares work."""
+    if not hasattr(kit, "share_work"):
+        return
     kit.share_work(True)
-    todo = named(kit.rtlib.crates_below(os.getcwd()), name).below()
-    for crate in todo:
+    for crate in crates:
         if crate.is_built():
             kit.offer(crate, crate.stamp())
+
+
+def prove_below(kit, name, most):
+    """Proves what a crate stands on, as libraries over which a check goes on."""
+    todo = named(kit.rtlib.crates_below(os.getcwd()), name).below()
+    offer_built(kit, todo)
     return prove_all(kit, todo, most, lambda crate, flags: crate.build_rlib(flags, anew=False))
+
+
+class KeptNothing:
+    """Stands for the proofs that earlier runs kept, where the kit keeps none."""
+
+    def key(self, crate):
+        return None
+
+    def give(self, crate, tests, key):
+        return False
+
+    def is_built(self, crate):
+        pass
+
+    def keep(self, crate, tests, key):
+        pass
+
+
+def gate_crates(kit):
+    """The crates as the gate proves them, and what is kept of their proofs. A kit that keeps none would clear what checks have left."""
+    if hasattr(kit, "Kept"):
+        crates = kit.crates_of(os.getcwd())
+        return crates, kit.Kept(crates)
+    kit.rtlib.Crate = kit.Crate
+    return kit.rtlib.crates_below(os.getcwd()), KeptNothing()
 
 
 def prove_program(kit, name, most):
     """Proves a program and what it stands on as the gate does, and builds it."""
     kit.Crate.cuts_libraries = True
     kit.Crate.allowed = kit.handles_of(os.getcwd())
-    crates = kit.crates_of(os.getcwd())
-    kept, program = kit.Kept(crates), named(crates, name)
+    crates, kept = gate_crates(kit)
+    program = named(crates, name)
 
     def prove(crate, flags):
         key = kept.key(crate)

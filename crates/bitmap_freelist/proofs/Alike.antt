@@ -5,10 +5,10 @@ use Rattle.unit_fields.specs.declared.width.Width.{Width}
 use Rattle.meta_rows.specs.Prelude.{Rows, rows_after}
 use Rattle.meta_rows.specs.declared.row_op.RowOp.{RowOp}
 use Rattle.object_model.specs.Prelude.{Object, Objects}
-use Rattle.row_format.specs.Prelude.{object_key, coll_key, onode_key, attr_key, header_key, omap_key, Place, own, Row, onode, shard, row_key}
+use Rattle.row_format.specs.Prelude.{object_key, coll_key, onode_key, attr_key, header_key, omap_key, shared_key, Place, own, slot, Slot, Row, onode, shard, row_key}
 use Rattle.row_format.proofs.Prelude.{same_head}
-use Rattle.store_image.specs.Prelude.{HasRow, PageUnit, IsPageAt, IsPageOn, Owner, page_of, Owns, IsPageSeen, page_bytes, IsObjectShape, IsShape, AreObjectBytes, ObjectsStand}
-use Rattle.store_image.proofs.Prelude.{stands_still}
+use Rattle.store_image.specs.Prelude.{HasRow, PageUnit, IsPageAt, HasSlot, IsPageOn, Owner, page_of, slot_of, Owns, IsCounted, CountsAreExact, IsPageSeen, page_bytes, IsObjectShape, IsShape, AreObjectBytes, ObjectsStand}
+use Rattle.store_image.proofs.Prelude.{slot_still, stands_still}
 use Rattle.bitmap_freelist.specs.Bitmap.{Units, AreFlips, IsOtherKey, AreAlikeButBits}
 use Rattle.bitmap_freelist.proofs.Turning.{leave_others}
 
@@ -37,6 +37,10 @@ attr_keys c o rest = object_key_is_other 0x41 c o rest (λ e. absurd (omega (ari
 -- and those of headers and omaps
 omap_keys : (c o rest : List ℕ) → IsOtherKey (object_key 0x4d c o rest)
 omap_keys c o rest = object_key_is_other 0x4d c o rest (λ e. absurd (omega (arith, e)))
+
+-- and those of shared blobs
+pub blob_keys : (sbid : ℕ) → IsOtherKey (shared_key sbid)
+blob_keys sbid = other_first 0x58 _ (λ e. absurd (omega (arith, e)))
 
 -- ---- rows that are alike
 
@@ -71,13 +75,39 @@ pub alike_page_on : (w : Width) (rows other : Rows) (c o : List ℕ) (page : ℕ
 alike_page_on w rows other c o page on alike is = record {
   place = is.place;
   at = alike_page w rows other c o page is.place alike is.at;
-  stands = stands_still rows other is.place on is.stands;
+  stands = stands_still w rows other is.place on (λ sbid. alike (shared_key sbid) (blob_keys sbid)) is.stands;
 }
+
+-- a slot
+alike_slot : (w : Width) (rows other : Rows) (sbid index at : ℕ) (x : Slot) → AreAlikeButBits rows other → HasSlot w rows sbid index at x
+    → HasSlot w other sbid index at x
+alike_slot w rows other sbid index at x alike has = slot_still w rows other sbid index at x (alike (shared_key sbid) (blob_keys sbid)) has
+
+-- how many pages name it
+alike_counted : (w : Width) (rows other : Rows) (sbid index count : ℕ) → AreAlikeButBits rows other → IsCounted w rows sbid index count
+    → IsCounted w other sbid index count
+alike_counted w rows other sbid index count alike is = record {
+  pages = is.pages;
+  namers = record {
+    each = λ p. (
+      λ has. alike_page w rows other p.coll p.object p.page (slot sbid index) alike ((is.namers.each p).0 has),
+      λ names. (is.namers.each p).1 (alike_page w other rows p.coll p.object p.page (slot sbid index) (alike_back rows other alike) names),
+    );
+    once = is.namers.once;
+  };
+  count_is = is.count_is;
+}
+
+-- so counts stay exact
+pub alike_counts : (w : Width) (rows other : Rows) → AreAlikeButBits rows other → CountsAreExact w rows → CountsAreExact w other
+alike_counts w rows other alike counts sbid index unit x has =
+    alike_counted w rows other sbid index x.count alike (counts sbid index unit x (alike_slot w other rows sbid index unit x (alike_back rows other alike) has))
 
 -- an owner on the other side
 owns_there : (w : Width) (rows other : Rows) (owner : Owner) (unit : ℕ) → AreAlikeButBits rows other → Owns w rows owner unit
     → Owns w other owner unit
 owns_there w rows other (page_of c o page) unit alike owns = (owns.0, alike_page w rows other c o page (own unit owns.0) alike owns.1)
+owns_there w rows other (slot_of sbid index) unit alike owns = (owns.0, (alike_slot w rows other sbid index unit owns.0 alike owns.1.0, owns.1.1))
 
 -- who owns a unit
 pub alike_owns : (w : Width) (rows other : Rows) (owner : Owner) (unit : ℕ) → AreAlikeButBits rows other

@@ -8,14 +8,14 @@ use Rattle.meta_rows.specs.Prelude.{Rows, rows_after}
 use Rattle.meta_rows.specs.declared.row_op.RowOp.{RowOp}
 use Rattle.meta_log.specs.declared.slot.Super.{Super}
 use Rattle.meta_log.specs.Prelude.{width_of}
-use Rattle.row_format.specs.Prelude.{bit_in, object_key, bitmap_key, coll_key, onode_key, Row, onode, shard, bitmap, row_key, row_value, FitsRow, FitsBitmap}
+use Rattle.row_format.specs.Prelude.{bit_in, object_key, bitmap_key, coll_key, onode_key, shared_key, Row, onode, shard, blob, bitmap, row_key, row_value, FitsRow, FitsBitmap}
 use Rattle.row_format.proofs.Prelude.{begins_b}
 use Rattle.store_image.specs.Prelude.{HasKey, HasRow, IsDataUnit, IsMarked, AreOfData, IsInPlace, IsGoodRow, NoBadRow}
 use Rattle.store_image.proofs.Prelude.{Carries, good_carried}
 use Rattle.bitmap_freelist.specs.Bitmap.{Units, Has, AreFlips, AreBitmapRows, NoneIsZero, IsOtherKey, AreAlikeButBits}
 use Rattle.bitmap_freelist.proofs.Bits.{bit_in-zeros}
 use Rattle.bitmap_freelist.proofs.Turning.{same_row, Turns, at_any, turn_their_units, stay_in_table, stay_some}
-use Rattle.bitmap_freelist.proofs.Alike.{flips_alike, alike_back, alike_has_row, object_key_is_other, coll_key_is_other}
+use Rattle.bitmap_freelist.proofs.Alike.{flips_alike, alike_back, alike_has_row, object_key_is_other, coll_key_is_other, blob_keys}
 
 -- ---- rows of the table
 
@@ -86,7 +86,9 @@ module _ (s : Super) (rows other : Rows) (alike : AreAlikeButBits rows other) wh
     onode = λ c o. has_key (onode_key c o) (keys c o _);
     was_size = λ c o size. was (onode c o size) (keys c o _);
     was_shard = λ c o page es. was (shard c o page es) (keys c o _);
-    on_data = λ b is. is;
+    blob_key = λ sbid. has_key (shared_key sbid) (blob_keys sbid);
+    was_blob = λ sbid first slots. was (blob sbid first slots) (blob_keys sbid);
+    are_data = λ first count is. is;
     of_data = λ unit is. is;
   }
 

@@ -5,8 +5,8 @@ use Rattle.std.specs.List.{range_with_len, flat_map}
 use Rattle.std.proofs.lemmas.Bool.{cases_Bool}
 use Rattle.std.proofs.lemmas.Bool.Decides.{nat_tests}
 use Rattle.std.proofs.lemmas.List.{length_push, get_or_append_left, get_or_at, map-append}
-use Rattle.row_format.specs.Prelude.{Extent, Body, private, Place, own, place_in, page_count, page_end}
-use Rattle.blob_map.specs.Prelude.{extent_pages, single, is_next, follows, longer, more, extents_from, extents_of}
+use Rattle.row_format.specs.Prelude.{Extent, Body, private, shared, Place, own, slot, place_in, page_count, page_end}
+use Rattle.blob_map.specs.Prelude.{csum_of, extent_pages, single, is_next, follows, longer, more, extents_from, extents_of}
 
 same_number : (a b : ℕ) → (a == b) ≡ true → a ≡ b
 same_number a b is = grind (arith, nat_tests, is)
@@ -25,12 +25,26 @@ both_second false b is = cc
 -- the place is the next behind those of a body
 abbrev pub IsNextPlace : Body → Place → Type 0
 IsNextPlace (private unit csums) (own at csum) = at ≡ unit + length csums
+IsNextPlace (shared sbid first count) (slot blob index) = (blob ≡ sbid) × (index ≡ first + count)
+IsNextPlace body place = ⊥
 
 next_means : (body : Body) (place : Place) → is_next body place ≡ true → IsNextPlace body place
 next_means (private unit csums) (own at csum) is = same_number at (unit + length csums) is
+next_means (shared sbid first count) (slot blob index) is = (
+  same_number blob sbid (both_first (blob == sbid) (index == first + count) is),
+  same_number index (first + count) (both_second (blob == sbid) (index == first + count) is),
+)
+next_means (private unit csums) (slot blob index) is = absurd cc
+next_means (shared sbid first count) (own at csum) is = absurd cc
+
+both_tests : (a b c d : ℕ) → a ≡ b → c ≡ d → (a == b && c == d) ≡ true
+both_tests a b c d p q = grind (arith, nat_tests)
 
 is_next_holds : (body : Body) (place : Place) → IsNextPlace body place → is_next body place ≡ true
 is_next_holds (private unit csums) (own at csum) is = let e : at ≡ unit + length csums = is in grind (arith, nat_tests, e)
+is_next_holds (shared sbid first count) (slot blob index) is = both_tests blob sbid index (first + count) is.0 is.1
+is_next_holds (private unit csums) (slot blob index) is = absurd is
+is_next_holds (shared sbid first count) (own at csum) is = absurd is
 
 -- what it is to follow
 pub record IsNext (e : Extent) (p : ℕ × Place) : Type 0 where
@@ -54,16 +68,21 @@ pub next_follows : (e : Extent) (p : ℕ × Place) → IsNext e p → follows e 
 next_follows e p is = tests_hold (page_count e.body) 256 p.0 (page_end e) (is_next e.body p.1) is.few is.page (is_next_holds e.body p.1 is.place)
 
 pub longer_by_one : (body : Body) (p : Place) → page_count (longer body p) ≡ page_count body + 1
-longer_by_one (private unit csums) (own at csum) = length_push csums csum
+longer_by_one (private unit csums) p = length_push csums (csum_of p)
+longer_by_one (shared sbid first count) p = refl
 
 -- the places before stay
 place_kept : (body : Body) (p : Place) (k : ℕ) → k < page_count body → place_in (longer body p) k ≡ place_in body k
-place_kept (private unit csums) (own at csum) k lt = ap (λ c. own (unit + k) c) (get_or_append_left csums (csum ∷ []) 0 k lt)
+place_kept (private unit csums) p k lt = ap (λ c. own (unit + k) c) (get_or_append_left csums (csum_of p ∷ []) 0 k lt)
+place_kept (shared sbid first count) p k lt = refl
 
 -- and the new one is last
 place_new : (body : Body) (p : Place) → IsNextPlace body p → place_in (longer body p) (page_count body) ≡ p
 place_new (private unit csums) (own at csum) is =
     ap (λ c. own (unit + length csums) c) (get_or_at csums csum [] 0 (length csums) refl) ∙ ap (λ u. own u csum) (sym is)
+place_new (shared sbid first count) (slot blob index) is = λ i. slot (sym is.0 i) (sym is.1 i)
+place_new (private unit csums) (slot blob index) is = absurd is
+place_new (shared sbid first count) (own at csum) is = absurd is
 
 range_push : (a n : ℕ) → range_with_len a (n + 1) ≡ range_with_len a n ++ (a + n) ∷ []
 range_push a n = let e : n + 1 ≡ suc n = omega arith in ap (range_with_len a) e ∙ pushed a n
@@ -95,6 +114,10 @@ single_pages page (own at csum) =
     let same_page : page + 0 ≡ page = omega arith in
     let same_unit : at + 0 ≡ at = omega arith in
     ap (λ n. (n, own (at + 0) csum) ∷ []) same_page ∙ ap (λ u. (page, own u csum) ∷ []) same_unit
+single_pages page (slot sbid index) =
+    let same_page : page + 0 ≡ page = omega arith in
+    let same_slot : index + 0 ≡ index = omega arith in
+    ap (λ n. (n, slot sbid (index + 0)) ∷ []) same_page ∙ ap (λ k. (page, slot sbid k) ∷ []) same_slot
 
 pages_single : (p : ℕ × Place) → extent_pages (single p) ≡ p ∷ []
 pages_single p = single_pages p.0 p.1

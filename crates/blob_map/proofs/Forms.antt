@@ -10,8 +10,8 @@ use Rattle.unit_fields.specs.declared.width.Width.{Width}
 use Rattle.number_map.proofs.Laws.{same}
 use Rattle.number_map.proofs.Places.{both_first, both_second}
 use Rattle.number_map.proofs.Search.{cmp_equal, cmp_less, cmp_greater, less_is}
-use Rattle.row_format.specs.Prelude.{Extent, Body, private, Place, own, place_in, place_of, page_count, page_end, ExtentsAscend, FitsBody, FitsExtent, FitsCsum}
-use Rattle.blob_map.specs.Prelude.{PageMap, FitsPlace, FitsPage, StandsWithin, first_unit, extent_pages, alone, single, follows, longer, more, extents_from, extents_of, NoneJoins}
+use Rattle.row_format.specs.Prelude.{Extent, Body, private, shared, Place, own, slot, place_in, place_of, page_count, page_end, ExtentsAscend, FitsBody, FitsExtent, FitsCsum}
+use Rattle.blob_map.specs.Prelude.{PageMap, FitsPlace, FitsPage, StandsWithin, IsBodyWithin, extent_pages, alone, single, follows, longer, more, extents_from, extents_of, IsBehind, NoneJoins}
 use Rattle.blob_map.proofs.Lay.{page_at}
 use Rattle.blob_map.proofs.Places.{page_cases, place_here, place_behind}
 use Rattle.blob_map.proofs.Back.{IsNextPlace, follows_means, next_follows, longer_by_one, extents_back}
@@ -23,19 +23,24 @@ fits_push : (w : Width) (csums : List ℕ) (csum : ℕ) → FitsCsum w csum → 
 fits_push w [] csum fits all = (fits, tt)
 fits_push w (c ∷ csums) csum fits all = (all.0, fits_push w csums csum fits all.1)
 
-pub fits_longer : (w : Width) (body : Body) (p : Place) → page_count body < 256 → FitsPlace w p → FitsBody w body → FitsBody w (longer body p)
-fits_longer w (private unit csums) (own at csum) few place fits =
+pub fits_longer : (w : Width) (body : Body) (p : Place) → page_count body < 256 → IsNextPlace body p → FitsPlace w p → FitsBody w body
+    → FitsBody w (longer body p)
+fits_longer w (private unit csums) (own at csum) few next place fits =
     let n = longer_by_one (private unit csums) (own at csum) in
     (fits.0, omega (arith, n), omega (arith, n, few), fits_push w csums csum place.1 fits.3)
+fits_longer w (shared sbid first count) (slot blob index) few next place fits = (fits.0, fits.1, omega arith, omega (arith, few))
+fits_longer w (private unit csums) (slot blob index) few next place fits = absurd next
+fits_longer w (shared sbid first count) (own at csum) few next place fits = absurd next
 
 fits_alone : (w : Width) (p : Place) → FitsPlace w p → FitsBody w (alone p)
 fits_alone w (own unit csum) fits = (fits.0, omega arith, omega arith, (fits.1, tt))
+fits_alone w (slot sbid index) fits = (fits.0, fits.1, omega arith, omega arith)
 
 pub fits_single : (w : Width) (p : ℕ × Place) → FitsPage w p → FitsExtent w (single p)
 fits_single w p fits = record { first = fits.page; body = fits_alone w p.1 fits.place }
 
 pub fits_more : (w : Width) (e : Extent) (p : ℕ × Place) → FitsPlace w p.1 → follows e p ≡ true → FitsExtent w e → FitsExtent w (more e p)
-fits_more w e p lt is fits = record { first = fits.first; body = fits_longer w e.body p.1 (follows_means e p is).few lt fits.body }
+fits_more w e p lt is fits = record { first = fits.first; body = fits_longer w e.body p.1 (follows_means e p is).few (follows_means e p is).place lt fits.body }
 
 -- what holds of the extent of one page, and is kept by a page more, holds of all extents
 module _ (P : Extent → Type 0) (Q : ℕ × Place → Type 0) (of_single : (p : ℕ × Place) → Q p → P (single p))
@@ -58,9 +63,7 @@ extents_fit w = extents_all (FitsExtent w) (FitsPage w) (fits_single w) (λ e p 
 
 alone_count : (p : Place) → page_count (alone p) ≡ 1
 alone_count (own unit csum) = refl
-
-unit_kept : (body : Body) (p : Place) → first_unit (longer body p) ≡ first_unit body
-unit_kept (private unit csums) (own at csum) = refl
+alone_count (slot sbid index) = refl
 
 -- the pages are below a limit
 pages_within : (limit : ℕ) (ps : List (ℕ × Place)) → AllByRecursion (λ p. p.0 < limit) ps → AllByRecursion (λ e. page_end e ≤ limit) (extents_of ps)
@@ -68,23 +71,20 @@ pages_within limit = extents_all (λ e. page_end e ≤ limit) (λ p. p.0 < limit
     (λ e p is le lt. omega (arith, lt, longer_by_one e.body p.1, (follows_means e p is).page))
 
 -- the units are in a range
-IsBodyWithin : ℕ → ℕ → Body → Type 0
-IsBodyWithin low high body = (low ≤ first_unit body) × (first_unit body + page_count body ≤ high)
-
 alone_within : (low high : ℕ) (p : Place) → StandsWithin low high p → IsBodyWithin low high (alone p)
-unfolding IsBodyWithin
 alone_within low high (own unit csum) has = (has.0, omega (arith, has.1))
+alone_within low high (slot sbid index) has = tt
 
 longer_within : (low high : ℕ) (body : Body) (p : Place) → IsNextPlace body p → IsBodyWithin low high body → StandsWithin low high p
     → IsBodyWithin low high (longer body p)
-unfolding IsBodyWithin
 longer_within low high (private unit csums) (own at csum) next has lt =
     (has.0, omega (arith, lt.1, longer_by_one (private unit csums) (own at csum), next))
+longer_within low high (private unit csums) (slot blob index) next has lt = absurd next
+longer_within low high (shared sbid first count) p next has lt = tt
 
 units_within : (low high : ℕ) (ps : List (ℕ × Place)) → AllByRecursion (λ p. StandsWithin low high p.1) ps
-    → AllByRecursion (λ e. (low ≤ first_unit e.body) × (first_unit e.body + page_count e.body ≤ high)) (extents_of ps)
-unfolding IsBodyWithin
-units_within low high = extents_all (λ e. (low ≤ first_unit e.body) × (first_unit e.body + page_count e.body ≤ high)) (λ p. StandsWithin low high p.1)
+    → AllByRecursion (λ e. IsBodyWithin low high e.body) (extents_of ps)
+units_within low high = extents_all (λ e. IsBodyWithin low high e.body) (λ p. StandsWithin low high p.1)
     (λ p has. alone_within low high p.1 has)
     (λ e p is has lt. longer_within low high e.body p.1 (follows_means e p is).place has lt)
 
@@ -134,30 +134,52 @@ extents_ascend pages = sorted_ascend (entries pages) (entries_sorted pages)
 
 -- ---- they are as long as they get
 
+-- two bodies begin on the same unit or slot
+abbrev BeginAlike : Body → Body → Type 0
+BeginAlike (private unit csums) (private other more) = unit ≡ other
+BeginAlike (shared sbid first count) (shared blob index more) = (sbid ≡ blob) × (first ≡ index)
+BeginAlike body other = ⊥
+
+alike_itself : (body : Body) → BeginAlike body body
+alike_itself (private unit csums) = refl
+alike_itself (shared sbid first count) = (refl, refl)
+
+-- a page more leaves where a body begins
+alike_longer : (head body : Body) (p : Place) → BeginAlike head (longer body p) → BeginAlike head body
+alike_longer (private unit csums) (private other more) p is = is
+alike_longer (shared sbid first count) (shared blob index more) p is = is
+alike_longer (private unit csums) (shared blob index more) p is = absurd is
+alike_longer (shared sbid first count) (private other more) p is = absurd is
+
 -- of the extents grown from one, the first begins as it does
 record BeginsAs (e : Extent) (es : List Extent) : Type 0 where
   pub head : Extent
   pub others : List Extent
   pub are : es ≡ head ∷ others
   pub first : head.first ≡ e.first
-  pub unit : first_unit head.body ≡ first_unit e.body
+  pub alike : BeginAlike head.body e.body
 
 grown_begins : (ps : List (ℕ × Place)) (e : Extent) → BeginsAs e (extents_from e ps)
-grown_begins [] e = record { head = e; others = []; are = refl; first = refl; unit = refl }
+grown_begins [] e = record { head = e; others = []; are = refl; first = refl; alike = alike_itself e.body }
 grown_begins (p ∷ ps) e = elim (cases_Bool (follows e p)) [
   | inl is ↦
       let b = grown_begins ps (more e p) in
-      record { head = b.head; others = b.others; are = ap (λ t. cond t (extents_from (more e p) ps) (e ∷ extents_from (single p) ps)) is ∙ b.are; first = b.first; unit = b.unit ∙ unit_kept e.body p.1 }
-  | inr is ↦ record { head = e; others = extents_from (single p) ps; are = ap (λ t. cond t (extents_from (more e p) ps) (e ∷ extents_from (single p) ps)) is; first = refl; unit = refl }
+      record { head = b.head; others = b.others; are = ap (λ t. cond t (extents_from (more e p) ps) (e ∷ extents_from (single p) ps)) is ∙ b.are; first = b.first; alike = alike_longer b.head.body e.body p.1 b.alike }
+  | inr is ↦ record { head = e; others = extents_from (single p) ps; are = ap (λ t. cond t (extents_from (more e p) ps) (e ∷ extents_from (single p) ps)) is; first = refl; alike = alike_itself e.body }
 ]
 
-next_alone : (body : Body) (p : Place) → first_unit (alone p) ≡ first_unit body + page_count body → IsNextPlace body p
-next_alone (private unit csums) (own at csum) is = is
+next_alone : (body head : Body) (p : Place) → BeginAlike head (alone p) → IsBehind body head → IsNextPlace body p
+next_alone (private unit csums) (private other more) (own at csum) alike is = sym alike ∙ is
+next_alone (shared sbid first count) (shared blob index more) (slot s i) alike is = (sym alike.0 ∙ is.0, sym alike.1 ∙ is.1)
+next_alone (private unit csums) (private other more) (slot s i) alike is = absurd alike
+next_alone (shared sbid first count) (shared blob index more) (own at csum) alike is = absurd alike
+next_alone (private unit csums) (shared blob index more) p alike is = absurd is
+next_alone (shared sbid first count) (private other more) p alike is = absurd is
 
 behind_joins : (e : Extent) (p : ℕ × Place) (es : List Extent) → follows e p ≡ false → BeginsAs (single p) es → NoneJoins es → NoneJoins (e ∷ es)
 behind_joins e p es apart b none =
     subst (λ l. NoneJoins (e ∷ l)) (sym b.are) (
-      (λ joins. absurd (let yes = next_follows e p (record { few = joins.few; page = sym b.first ∙ joins.page; place = next_alone e.body p.1 (sym b.unit ∙ joins.unit) }) in cc)),
+      (λ joins. absurd (let yes = next_follows e p (record { few = joins.few; page = sym b.first ∙ joins.page; place = next_alone e.body b.head.body p.1 b.alike joins.next }) in cc)),
       subst NoneJoins b.are none,
     )
 
@@ -255,7 +277,7 @@ module _ (pages : PageMap) where
   extents_within limit has = pages_within limit (entries pages) (all_entries (λ p. p.0 < limit) has)
 
   pub extents_on : (low high : ℕ) → ((page : ℕ) (place : Place) → finite.get pages page ≡ Some place → StandsWithin low high place)
-      → AllByRecursion (λ e. (low ≤ first_unit e.body) × (first_unit e.body + page_count e.body ≤ high)) (extents_of (entries pages))
+      → AllByRecursion (λ e. IsBodyWithin low high e.body) (extents_of (entries pages))
   extents_on low high has = units_within low high (entries pages) (all_entries (λ p. StandsWithin low high p.1) has)
 
 pub one_map : (a b : PageMap) → extents_of (entries a) ≡ extents_of (entries b) → a ≡ b

@@ -1,3 +1,4 @@
 pub mod Pages
+pub mod Shown
 pub mod Normal
 pub mod Prelude

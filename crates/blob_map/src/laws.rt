@@ -4,7 +4,7 @@ ghost use Rattle.std.specs.List.{flat_map, AllByRecursion};
 ghost use Rattle.std.specs.FinMap as map;
 ghost use Rattle.unit_fields.specs.declared.width.Width.{Width};
 ghost use Rattle.row_format.specs.Prelude.{Place, place_of, page_count, page_end, ExtentsAscend, FitsExtent};
-ghost use Rattle.blob_map.specs.Pages.{PageMap, FitsPage, StandsWithin, first_unit, extent_pages};
+ghost use Rattle.blob_map.specs.Pages.{PageMap, FitsPage, StandsWithin, IsBodyWithin, extent_pages};
 ghost use Rattle.blob_map.specs.Normal.{extents_of, NoneJoins};
 
 /// The extents of a map have exactly its pages, each in its place. They have spellings where the map's numbers fit their fields, they
@@ -26,7 +26,7 @@ pub fn bounds_of_extents()
         → AllByRecursion (λ e. page_end e ≤ limit) (extents_of (map.entries pages)) }
     ensures units { (pages : PageMap) (low high : ℕ)
         → ((page : ℕ) (place : Place) → map.get pages page ≡ Some place → StandsWithin low high place)
-        → AllByRecursion (λ e. (low ≤ first_unit e.body) × (first_unit e.body + page_count e.body ≤ high)) (extents_of (map.entries pages)) }
+        → AllByRecursion (λ e. IsBodyWithin low high e.body) (extents_of (map.entries pages)) }
 {}
 
 /// Maps with the same extents are the same.

@@ -14,4 +14,4 @@ mod place;
 
 pub use laws::{bounds_of_extents, normal_form, one_map_for_extents};
 pub use page_map::PageMap;
-pub use place::Place;
+pub use place::{At, Place};

@@ -3,22 +3,29 @@
 use std::marker::Model;
 use unit_fields::UnitNo;
 
-/// Where a page stands, and the checksum that is kept for it: on a unit of the object's own.
+/// On what a page stands.
+#[derive(Clone, Copy)]
+pub enum At {
+    /// On a unit of the object's own; and the CRC-32C of the page.
+    Unit { unit: UnitNo, csum: u32 },
+    /// On a slot of a shared blob, whose row keeps the checksum.
+    Slot { sbid: u64, index: u16 },
+}
+
+/// Where a page stands.
 #[derive(Clone, Copy)]
 pub struct Place {
-    /// The unit that holds the page.
-    pub unit: UnitNo,
-    /// The CRC-32C of the page.
-    pub csum: u32,
+    /// On what.
+    pub at: At,
 }
 
 impl Model for Place {
-    ghost use Rattle.row_format.specs.Prelude.{Place, own};
-    ghost use Rattle.blob_map.specs.Pages.{numbers_of};
+    ghost use Rattle.row_format.specs.Prelude.{Place};
+    ghost use Rattle.blob_map.specs.Shown.{shown, of_shown};
 
     ghost Value = { Place };
 
-    ghost view = { λ a. own a.unit a.csum };
+    ghost view = { λ a. shown a.at };
 
-    ghost inverse = { λ p. record { unit = (numbers_of p).0; csum = (numbers_of p).1 } };
+    ghost inverse = { λ p. record { at = of_shown p } };
 }

@@ -104,10 +104,10 @@ module _ (s : State) (d : Disk) (kept : IsKept s d) (up : s.down ≡ None) (fron
           → SoundFor h s.log.sup then_rows later
       front_sound flushed_units clean = record {
         good = front_good.good;
-        stand = objects_stand w (held_or_last h xs) (last_at h) then_rows (λ unit has. over_last unit (page_owned w then_rows unit has)) later
+        stand = objects_stand w (held_or_last h xs) (last_at h) then_rows (λ unit has. over_last unit (page_owned w then_rows front_good.exact.counts unit has)) later
             (stand (intents front) front_fair);
         clean = λ unit has.
-            let owned : IsOwned w then_rows unit = page_owned w then_rows unit has in
+            let owned : IsOwned w then_rows unit = page_owned w then_rows front_good.exact.counts unit has in
             retired h s.log.sup (all_fresh front) (given_fresh back) flushed_units (subst (DataUnitsAreClean h s.log.sup) given_are clean) unit
             (owned_on_data s.log.sup then_rows unit front_good.good owned).0
             (given_taken (λ u. u ≢ unit) back (not_behind unit owned));

@@ -119,7 +119,7 @@ module _ (sup : Super) (rows : Rows) (xs : List Intent) (x : Intent) (limits : I
   -- over the new bytes
   rest_stands : (some : List Intent) → IsFairSelection xs some → ObjectsStand w then_at (rows_by rows some) (replay objects (changes_of es some))
   rest_stands some fair = objects_stand w at then_at (rows_by rows some)
-      (λ unit has. sym (spared some fair unit (page_owned w (rows_by rows some) unit has))) (replay objects (changes_of es some)) (stand some fair)
+      (λ unit has. sym (spared some fair unit (page_owned w (rows_by rows some) (selection_good sup rows xs good each some fair).exact.counts unit has))) (replay objects (changes_of es some)) (stand some fair)
 
   without_it : (some : List Intent) → IsFairSelection xs some → ObjectsStand w then_at (rows_by rows some) (replay objects (changes_of more some))
   without_it some fair = subst (λ (l : List Change). ObjectsStand w then_at (rows_by rows some) (replay objects l)) (sym (same_changes some fair))
@@ -151,7 +151,7 @@ module _ (sup : Super) (rows : Rows) (xs : List Intent) (x : Intent) (limits : I
 
     stands_last : ObjectsStand w then_at (rows_after before x.ops) found.0
     stands_last = makes.bytes before was found.0 at then_at suits is_good (stand rest has.without) found.1 reads holds
-        (λ unit owned. spared rest has.without unit (page_owned w before unit owned))
+        (λ unit owned. spared rest has.without unit (page_owned w before is_good.exact.counts unit owned))
 
     of_these : AllByRecursion (IsOfEntry more) (rest ++ x ∷ [])
     of_these = all_push (IsOfEntry more) rest x (entry_push es e rest (of_selected rest has.without)) of_x

@@ -12,7 +12,7 @@ use Rattle.object_model.specs.Prelude.{Objects, Change, replay, committed, chang
 use Rattle.meta_rows.specs.Prelude.{Rows}
 use Rattle.meta_log.specs.Prelude.{width_of, IsSuper}
 use Rattle.store_image.specs.Prelude.{NoBadRow, HasPage, ObjectsStand}
-use Rattle.store_image.proofs.Prelude.{objects_stand, page_owned}
+use Rattle.store_image.proofs.Prelude.{objects_stand}
 use Rattle.log_facts.proofs.Keeping.{last_push, half_before_data, half_spares_data}
 use Rattle.plan_rows.specs.declared.plan.FreshUnit.{FreshUnit}
 use Rattle.store_steps.specs.Prelude.{Batch, State, unsent_units, acknowledged, committed_batch, DoesCommit, Intent, intents, is_in, rows_by, uncommitted, given_fresh, RowsPart, DataPart, BookPart, rows_part, data_part, book_part, Touch, nothing, ends, flushes, on_data, on_half, on_other, on_slot, after, run_write, IsPlaced, IsNoData, RowsGo, DataGoes, BookGoes, commits_of, AcceptsOne, IsCaused, Footprint}
@@ -24,7 +24,7 @@ use Rattle.run_facts.proofs.Prelude.{accepted_makes, accepted_joins, batch_writt
 use Rattle.plan_rows.specs.declared.plan.Plan.{Plan}
 use Rattle.plan_drafts.specs.Prelude.{HoldsRead, PlansKeep}
 use Rattle.space_facts.proofs.Prelude.{selection_good, each_named}
-use Rattle.plan_rows.proofs.OnData.{owned_on_data}
+use Rattle.plan_rows.proofs.OnData.{page_on_data}
 use Rattle.book_facts.specs.Prelude.{IsOfEntry, KnownOfBook, IsFairSelection, applied_changes, changes_of, SelectionsStand}
 use Rattle.book_facts.proofs.Prelude.{all_then, places_acknowledged, changes_at, applied_by_places, applied_entry, applied_committed, batch_last}
 use Rattle.unit_facts.specs.DataUnits.{HeldBytesAreLast}
@@ -53,7 +53,7 @@ bytes_kept : (flights : List Flight) (t : Touch) (p q : DataPart) (h : History) 
 bytes_kept flights t p q h w r xs unit (units.same spares is) placed size limits width good own has = of_touch t spares placed
   where
     on_data_unit : data_unit p.sup ≤ unit
-    on_data_unit = (owned_on_data p.sup r unit good (page_owned (width_of p.sup) r unit (subst (λ (v : Width). HasPage v r unit) width has))).0
+    on_data_unit = (page_on_data p.sup r unit good (subst (λ (v : Width). HasPage v r unit) width has)).0
 
     of_touch : (t : Touch) → IsNoData t → IsPlaced p.sup t → held_or_last h xs unit ≡ held_or_last (after t h) xs unit
     of_touch nothing spares placed = refl

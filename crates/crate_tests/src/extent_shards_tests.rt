@@ -1,7 +1,7 @@
 //! The values of shards' rows spelled by hand, and maps cut by a bound on the bytes of a shard.
 
 use crate::cases::first_false;
-use blob_map::{PageMap, Place};
+use blob_map::{At, PageMap, Place};
 use byte_maps::Bytes;
 use extent_shards::{pages_behind, push_shard};
 use std::alloc::{AllocError, Global};
@@ -26,9 +26,11 @@ fn shard_values(alloc: Global, pages: &PageMap, bound: u32) -> Result<Vec<Bytes>
 fn values_of(alloc: Global, pages: &[(u32, u32)], bound: u32) -> Result<Vec<Bytes>, AllocError> {
     let mut map = PageMap::new(alloc);
     for (page, unit) in pages {
-        let csum = unit / 2;
-        let unit = UnitNo::new(*unit);
-        map.set(*page, Place { unit, csum })?;
+        let at = At::Unit {
+            unit: UnitNo::new(*unit),
+            csum: unit / 2,
+        };
+        map.set(*page, Place { at })?;
     }
     shard_values(alloc, &map, bound)
 }
@@ -37,13 +39,33 @@ fn values_of(alloc: Global, pages: &[(u32, u32)], bound: u32) -> Result<Vec<Byte
 const TWO_EXTENTS: &[u8] =
     b"\x03\0\0\0\x02\0\0\x28\0\0\0\x14\0\0\0\x14\0\0\0\x07\0\0\0\x01\0\0\x3c\0\0\0\x1e\0\0\0";
 
+// Whether there is one value, and it is this.
+fn is_only(values: &[Bytes], wanted: &[u8]) -> bool {
+    match values {
+        [only] => only.as_slice() == wanted,
+        _ => false,
+    }
+}
+
 // Whether their shard alone has this value.
 fn is_value(alloc: Global) -> Result<bool, AllocError> {
     let values = values_of(alloc, &[(7, 60), (3, 40), (4, 41)], u32::MAX)?;
-    match values.as_slice() {
-        [only] => Ok(only.as_slice() == TWO_EXTENTS),
-        _ => Ok(false),
+    Ok(is_only(values.as_slice(), TWO_EXTENTS))
+}
+
+// Pages 5 and 6 on the slots 7 and 8 of the blob 2, page 7 on the slot 9 of the blob 3.
+const SLOTS: &[u8] =
+    b"\x05\0\0\0\x02\0\x01\x02\0\0\0\0\0\0\0\x07\0\x07\0\0\0\x01\0\x01\x03\0\0\0\0\0\0\0\x09\0";
+
+// Whether their shard alone has this value.
+fn is_value_of_slots(alloc: Global) -> Result<bool, AllocError> {
+    let mut map = PageMap::new(alloc);
+    for (page, sbid, index) in [(6, 2, 8), (7, 3, 9), (5, 2, 7)] {
+        let at = At::Slot { sbid, index };
+        map.set(page, Place { at })?;
     }
+    let values = shard_values(alloc, &map, u32::MAX)?;
+    Ok(is_only(values.as_slice(), SLOTS))
 }
 
 // A map whose extents have 19, 15 and 15 bytes.
@@ -82,7 +104,7 @@ pub fn first_wrong(alloc: Global) -> Result<Option<usize>, AllocError> {
     Ok(None)
 }
 
-/// 0 where the value that is spelled by hand is another.
+/// The place of the first value that is spelled by hand and is another.
 pub fn first_wrong_value(alloc: Global) -> Result<Option<usize>, AllocError> {
-    Ok(first_false(&[is_value(alloc)?]))
+    Ok(first_false(&[is_value(alloc)?, is_value_of_slots(alloc)?]))
 }

@@ -10,11 +10,13 @@ use Rattle.unit_fields.specs.declared.width.Width.{Width}
 use Rattle.unit_fields.specs.Prelude.{bytes_of}
 use Rattle.row_format.specs.Prelude.{Extent, BeginsAt, Place, extent_bytes, csum_bytes}
 use Rattle.onode_codec.specs.declared.extent.Head.{Head}
+use Rattle.onode_codec.specs.declared.extent.Start.{Start}
+use Rattle.onode_codec.specs.declared.extent.Start.TheVariants.{Unit as OnUnit, Slot as OnSlot}
 use Rattle.onode_codec.proofs.ExtentReading.{length-csums}
 use Rattle.blob_map.specs.Prelude.{extents_of}
-use Rattle.extent_shards.specs.Prelude.{shard_bytes, is_within, shards_from, shards_of, first_of, extent_with, csums_of, IsFirstRun, WritesFront, WritesShard}
+use Rattle.extent_shards.specs.Prelude.{shard_bytes, is_within, shards_from, shards_of, first_of, body_with, extent_with, run_size, csums_of, IsFirstRun, WritesFront, WritesShard}
 use Rattle.extent_shards.specs.declared.pushing.Front.{Front}
-use Rattle.extent_shards.proofs.Runs.{count_csums}
+use Rattle.extent_shards.proofs.Runs.{count_csums, count_with}
 use Rattle.extent_shards.proofs.Fronts.{count_of, count_append, count_all, front_of, begins_at_first}
 
 -- what it is to be within a bound
@@ -25,16 +27,18 @@ pub past_bound : (bound limit count : ℕ) → limit ≡ bound → limit < count
 past_bound bound limit count is lt = grind (arith, nat_tests)
 
 -- the bytes of an extent
-run_size : (w : Width) (h : Head) (csums : List ℕ) → length (extent_bytes w (extent_with h csums)) ≡ 11 + bytes_of w (length csums)
-run_size w h csums =
+run_length : (w : Width) (first count : ℕ) (s : Start) (csums : List ℕ) → length csums ≡ count
+    → length (extent_bytes w (record { first = first; body = body_with s count csums })) ≡ run_size w s count
+run_length w first count (OnUnit unit) csums size =
     let numbers = flat_map (csum_bytes w) csums in
     omega (
       arith,
-      length-append (to_le_bytes w32 h.first) (to_le_bytes w16 (length csums) ++ (0 ∷ (to_le_bytes w32 h.unit ++ numbers))),
-      length-append (to_le_bytes w16 (length csums)) (0 ∷ (to_le_bytes w32 h.unit ++ numbers)),
-      length-append (to_le_bytes w32 h.unit) numbers,
-      length-csums w csums,
+      length-append (to_le_bytes w32 first) (to_le_bytes w16 (length csums) ++ (0 ∷ (to_le_bytes w32 unit ++ numbers))),
+      length-append (to_le_bytes w16 (length csums)) (0 ∷ (to_le_bytes w32 unit ++ numbers)),
+      length-append (to_le_bytes w32 unit) numbers,
+      length-csums w csums ∙ ap (bytes_of w) size,
     )
+run_length w first count (OnSlot sbid index) csums size = omega arith
 
 -- the extent of the first run, alone, is that of its pages
 module _ (ps : List (ℕ × Place)) (h : Head) (run : IsFirstRun ps h) where
@@ -42,13 +46,13 @@ module _ (ps : List (ℕ × Place)) (h : Head) (run : IsFirstRun ps h) where
   first_extent = extent_with h (csums_of (take h.count ps))
 
   pub run_count : count_of (first_extent ∷ []) ≡ h.count
-  run_count = omega (arith, count_csums h.count ps run.within)
+  run_count = omega (arith, count_with h.start h.count (csums_of (take h.count ps)) (count_csums h.count ps run.within))
 
   pub run_taken : extents_of (take h.count ps) ≡ first_extent ∷ []
   run_taken = front_of ps h.count (first_extent ∷ []) (extents_of (drop h.count ps)) run.run run_count
 
-  pub run_bytes : (w : Width) → length (extent_bytes w first_extent) ≡ 11 + bytes_of w h.count
-  run_bytes w = run_size w h (csums_of (take h.count ps)) ∙ ap (λ n. 11 + bytes_of w n) (count_csums h.count ps run.within)
+  pub run_bytes : (w : Width) → length (extent_bytes w first_extent) ≡ run_size w h.start h.count
+  run_bytes w = run_length w h.first h.count h.start (csums_of (take h.count ps)) (count_csums h.count ps run.within)
 
 -- The first pages, so many of them, are cut between two extents, and theirs are at the front of the first shard. They have so many bytes, which are
 -- written behind what was there.
@@ -65,7 +69,7 @@ one_alone w e = flat_map-cons (extent_bytes w) e [] ∙ append-nil (extent_bytes
 
 -- the first extent
 pub run_is_front : (w : Width) (bound : Option ℕ) (ps : List (ℕ × Place)) (h : Head) (count bytes : ℕ) (old new : List ℕ) → IsFirstRun ps h
-    → count ≡ h.count → bytes ≡ 11 + bytes_of w h.count → new ≡ old ++ extent_bytes w (extent_with h (csums_of (take h.count ps)))
+    → count ≡ h.count → bytes ≡ run_size w h.start h.count → new ≡ old ++ extent_bytes w (extent_with h (csums_of (take h.count ps)))
     → IsFront w bound ps count bytes old new
 run_is_front w bound ps h count bytes old new run is bytes_is pushed =
     let e = first_extent ps h run in
@@ -83,7 +87,7 @@ run_is_front w bound ps h count bytes old new run is bytes_is pushed =
 -- one extent behind so many pages
 module _ (w : Width) (bound : Option ℕ) (ps : List (ℕ × Place)) (count bytes : ℕ) (old new : List ℕ) (h : Head)
     (front : IsFront w bound ps count bytes old new) (run : IsFirstRun (drop count ps) h) (bytes' : ℕ)
-    (bytes_more : bytes' ≡ bytes + (11 + bytes_of w h.count)) where
+    (bytes_more : bytes' ≡ bytes + run_size w h.start h.count) where
   abbrev shard : List Extent
   shard = extents_of (take count ps)
 
@@ -167,7 +171,7 @@ IsBegun w bound ps count bytes old new = ((count ≡ 0) × (bytes ≡ 0) × (new
 
 module _ (w : Width) (bound : Option ℕ) (ps : List (ℕ × Place)) (count bytes : ℕ) (old new : List ℕ) where
   module _ (h : Head) (begun : IsBegun w bound ps count bytes old new) (run : IsFirstRun (drop count ps) h) (bytes' : ℕ)
-      (bytes_more : bytes' ≡ bytes + (11 + bytes_of w h.count)) where
+      (bytes_more : bytes' ≡ bytes + run_size w h.start h.count) where
     pub one_more_run : (0 < count → is_within bound bytes' ≡ true) → (count' : ℕ) (new' : List ℕ) → count' ≡ count + h.count
         → new' ≡ new ++ extent_bytes w (extent_with h (csums_of (take h.count (drop count ps)))) → IsFront w bound ps count' bytes' old new'
     one_more_run is count' new' count_is pushed = elim begun [

@@ -3,7 +3,7 @@ use Rattle.std.proofs.Common.{◌≡◌, ℕ, List, [], ◌∷◌, ◌++◌, len
 use Rattle.std.specs.List.{flat_map}
 use Rattle.std.proofs.lemmas.List.Concat.{flat_map-cons}
 use Rattle.unit_fields.specs.declared.width.Width.{Width}
-use Rattle.row_format.specs.Prelude.{Extent, Body, private, extent_bytes, FitsExtent, BeginsAt}
+use Rattle.row_format.specs.Prelude.{Extent, Body, extent_bytes, FitsExtent, BeginsAt}
 use Rattle.onode_codec.specs.declared.extent.Head.{Head}
 use Rattle.onode_codec.specs.Reading.{BeginsWithNoExtent, ReadsHead, SpellExtents}
 use Rattle.onode_codec.proofs.ExtentReading.{head_front}
@@ -13,7 +13,7 @@ use Rattle.extent_shards.specs.Prelude.{IsShardValue}
 first_read : (w : Width) (value mid rest : List ℕ) (h : Head) (first : ℕ) (b : Body) → ReadsHead value mid h
     → FitsExtent w (record { first = first; body = b })
     → value ≡ extent_bytes w (record { first = first; body = b }) ++ rest → first ≡ h.first
-first_read w value mid rest h first (private unit csums) read fits is = sym (head_front w value mid rest h first unit csums read fits is).first_is
+first_read w value mid rest h first b read fits is = sym (head_front w value mid rest h first b read fits is).first_is
 
 pub page_read : (w : Width) (value mid : List ℕ) (h : Head) → ReadsHead value mid h → (es : List Extent) → SpellExtents w value es
     → BeginsAt h.first es

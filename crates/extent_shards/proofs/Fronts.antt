@@ -1,7 +1,7 @@
 -- The extents of a map's first pages, where the pages are cut between two extents.
 use Rattle.std.proofs.Common.{◌≡◌, inl, inr, ℕ, zero, suc, ◌+◌, ◌<◌, ◌≤◌, true, false, cond, List, [], ◌∷◌, ◌++◌, length, get_or, take, refl, sym, ap, subst, ◌∙◌, arith}
 use Rattle.std.proofs.lemmas.Bool.{cases_Bool}
-use Rattle.row_format.specs.Prelude.{Extent, BeginsAt, Place, own, page_count}
+use Rattle.row_format.specs.Prelude.{Extent, BeginsAt, Place, own, slot, page_count}
 use Rattle.blob_map.specs.Prelude.{alone, single, follows, more, extents_from, extents_of}
 use Rattle.blob_map.proofs.Back.{longer_by_one}
 
@@ -16,6 +16,7 @@ count_append (x ∷ xs) ys = omega (arith, count_append xs ys)
 
 one_page : (place : Place) → page_count (alone place) ≡ 1
 one_page (own unit csum) = refl
+one_page (slot sbid index) = refl
 
 -- the extents from one on, with a page more
 module _ (e : Extent) (p : ℕ × Place) (ps : List (ℕ × Place)) where

@@ -6,7 +6,7 @@ use Rattle.std.specs.FinMap as finite
 use Rattle.std.proofs.lemmas.Bool.{cases_Bool}
 use Rattle.std.proofs.lemmas.Bool.Decides.{nat_tests}
 use Rattle.unit_fields.specs.declared.width.Width.{Width}
-use Rattle.row_format.specs.Prelude.{Extent, BeginsAt, ExtentsAscend, page_count, page_end, Place, own}
+use Rattle.row_format.specs.Prelude.{Extent, BeginsAt, ExtentsAscend, page_count, page_end, Place, own, slot}
 use Rattle.blob_map.specs.Prelude.{PageMap, alone, single, follows, more, extents_from, extents_of}
 use Rattle.blob_map.proofs.Forms.{extents_ascend}
 use Rattle.blob_map.proofs.Back.{longer_by_one}
@@ -69,6 +69,7 @@ HasPages e = 0 < page_count e.body
 
 one_page : (place : Place) → 0 < page_count (alone place)
 one_page (own unit csum) = omega arith
+one_page (slot sbid index) = omega arith
 
 pages_from : (ps : List (ℕ × Place)) (e : Extent) → HasPages e → AllByRecursion HasPages (extents_from e ps)
 pages_from [] e has = (has, tt)

@@ -1,15 +1,18 @@
 -- The first of the extents of pages, and the pages that it has.
-use Rattle.std.proofs.Common.{◌≡◌, ℕ, zero, suc, ◌+◌, ◌-◌, ◌<◌, ◌≤◌, true, false, cond, List, [], ◌∷◌, ◌++◌, length, get_or, take, drop, refl, sym, ap, subst, ◌∙◌, append_assoc, arith}
+use Rattle.std.proofs.Common.{◌≡◌, ℕ, zero, suc, ◌+◌, ◌-◌, ◌<◌, ◌≤◌, true, false, cond, List, [], ◌∷◌, ◌++◌, length, get_or, take, drop, refl, sym, ap, subst, ◌∙◌, append_assoc, append-nil, arith}
+use Rattle.std.specs.Prelude.{nat_lt, ◌==◌, ◌&&◌}
 use Rattle.std.specs.List.{flat_map}
 use Rattle.std.proofs.lemmas.List.{drop_more, drop_all, take_more, length-take, length-map, map-append, get_or-drop}
 use Rattle.std.proofs.lemmas.List.Concat.{flat_map-cons}
 use Rattle.unit_fields.specs.declared.width.Width.{Width}
-use Rattle.row_format.specs.Prelude.{Body, private, Place, own, extent_bytes, csum_bytes}
+use Rattle.row_format.specs.Prelude.{Body, private, Place, page_count, csum_bytes, extent_bytes}
 use Rattle.onode_codec.specs.declared.extent.Head.{Head}
+use Rattle.onode_codec.specs.declared.extent.Start.{Start}
+use Rattle.onode_codec.specs.declared.extent.Start.TheVariants.{Unit as OnUnit, Slot as OnSlot}
 use Rattle.onode_codec.specs.Reading.{extent_head}
 use Rattle.onode_codec.proofs.ExtentReading.{head_then_csums}
-use Rattle.blob_map.specs.Prelude.{csum_of, single, longer, more, follows, extents_from, extents_of}
-use Rattle.extent_shards.specs.Prelude.{extent_with, csums_of, IsFirstRun}
+use Rattle.blob_map.specs.Prelude.{csum_of, alone, single, is_next, longer, more, follows, extents_from, extents_of}
+use Rattle.extent_shards.specs.Prelude.{body_with, extent_with, kept_bytes, csums_of, IsFirstRun}
 use Rattle.blob_map.proofs.Back.{follows_means}
 
 -- the first pages, as many as the head says, are in its extent, and the others are to come
@@ -19,20 +22,40 @@ pub record Grows (ps : List (ℕ × Place)) (h : Head) : Type 0 where
   pub within : h.count ≤ length ps
   pub grown : extents_of ps ≡ extents_from (extent_with h (csums_of (take h.count ps))) (drop h.count ps)
 
-pub one_grows : (ps : List (ℕ × Place)) (h : Head) (csum : ℕ) (d : ℕ × Place) → 0 < length ps → h.count ≡ 1
-    → (h.first, own h.unit csum) ≡ get_or ps 0 d → Grows ps h
-one_grows [] h csum d lt one is = absurd (omega (arith, lt))
-one_grows (p ∷ ps) h csum d lt one is = record {
+pub one_grows : (ps : List (ℕ × Place)) (h : Head) (place : Place) (d : ℕ × Place) → 0 < length ps → h.count ≡ 1
+    → (h.first, place) ≡ get_or ps 0 d → body_with h.start 1 (csum_of place ∷ []) ≡ alone place → Grows ps h
+one_grows [] h place d lt one is begins = absurd (omega (arith, lt))
+one_grows (p ∷ ps) h place d lt one is begins = record {
   some = omega (arith, one);
   most = omega (arith, one);
   within = omega (arith, one);
   grown = ap (λ x. extents_from (single x) ps) (sym is)
-      ∙ ap (λ x. extents_from (extent_with h (csum_of x.1 ∷ [])) ps) is
-      ∙ ap (λ n. extents_from (extent_with h (csums_of (take n (p ∷ ps)))) (drop n (p ∷ ps))) (sym one);
+      ∙ ap (λ (b : Body). extents_from (record { first = h.first; body = b }) ps) (sym begins)
+      ∙ ap (λ x. extents_from (record { first = h.first; body = body_with h.start 1 (csum_of x.1 ∷ []) }) ps) is
+      ∙ ap (λ n. extents_from (record { first = h.first; body = body_with h.start n (csums_of (take n (p ∷ ps))) }) (drop n (p ∷ ps))) (sym one);
 }
 
-longer_csums : (unit : ℕ) (csums : List ℕ) (place : Place) → longer (private unit csums) place ≡ private unit (csums ++ csum_of place ∷ [])
-longer_csums unit csums (own at csum) = refl
+longer_with : (s : Start) (count : ℕ) (csums : List ℕ) (place : Place)
+    → longer (body_with s count csums) place ≡ body_with s (count + 1) (csums ++ csum_of place ∷ [])
+longer_with (OnUnit unit) count csums place = refl
+longer_with (OnSlot sbid index) count csums place = refl
+
+pub count_with : (s : Start) (count : ℕ) (csums : List ℕ) → length csums ≡ count → page_count (body_with s count csums) ≡ count
+count_with (OnUnit unit) count csums size = size
+count_with (OnSlot sbid index) count csums size = refl
+
+pub follows_with : (h : Head) (csums : List ℕ) (page : ℕ) (place : Place) → length csums ≡ h.count
+    → (nat_lt h.count 256 && (page == h.first + h.count && is_next (body_with h.start h.count csums) place)) ≡ follows (extent_with h csums) (page, place)
+follows_with h csums page place size =
+    ap (λ n. nat_lt n 256 && (page == h.first + n && is_next (body_with h.start h.count csums) place)) (sym (count_with h.start h.count csums size))
+
+-- a head and what stands behind it are its extent
+head_then_kept : (w : Width) (first count : ℕ) (s : Start) (csums : List ℕ) → length csums ≡ count
+    → extent_head (record { first = first; count = count; start = s }) ++ kept_bytes w s csums
+    ≡ extent_bytes w (record { first = first; body = body_with s count csums })
+head_then_kept w first count (OnUnit unit) csums size = head_then_csums w first count unit csums size
+head_then_kept w first count (OnSlot sbid index) csums size =
+    append-nil (extent_head (record { first = first; count = count; start = OnSlot sbid index }))
 
 pub count_csums : (n : ℕ) (ps : List (ℕ × Place)) → n ≤ length ps → length (csums_of (take n ps)) ≡ n
 count_csums n ps le = length-map (take n ps) (λ p. csum_of p.1) ∙ omega (arith, length-take n ps, le)
@@ -54,13 +77,13 @@ module _ (ps : List (ℕ × Place)) (h : Head) (q : ℕ × Place) (g : Grows ps 
       let size = size_of_csums ps h g in
       let more_is : Grows ps (record h { count = h.count + 1 }) = record {
         some = omega arith;
-        most = omega (arith, few, size);
+        most = omega (arith, few, count_with h.start h.count (csums_of (take h.count ps)) size);
         within = omega (arith, lt);
         grown = g.grown ∙ ap (extents_from (extent_with h (csums_of (take h.count ps)))) left_is
             ∙ ap (λ t. cond t (extents_from (more (extent_with h (csums_of (take h.count ps))) q) (drop (h.count + 1) ps))
             (extent_with h (csums_of (take h.count ps)) ∷ extents_from (single q) (drop (h.count + 1) ps))) does
-            ∙ ap (λ (b : Body). extents_from (record { first = h.first; body = b }) (drop (h.count + 1) ps)) (longer_csums h.unit (csums_of (take h.count ps)) q.1)
-            ∙ ap (λ cs. extents_from (extent_with h cs) (drop (h.count + 1) ps)) (sym csums_more);
+            ∙ ap (λ (b : Body). extents_from (record { first = h.first; body = b }) (drop (h.count + 1) ps)) (longer_with h.start h.count (csums_of (take h.count ps)) q.1)
+            ∙ ap (λ cs. extents_from (record { first = h.first; body = body_with h.start (h.count + 1) cs }) (drop (h.count + 1) ps)) (sym csums_more);
       } in subst (Grows ps) (sym is') more_is
 
   pub ends_here : follows (extent_with h (csums_of (take h.count ps))) q ≡ false → IsFirstRun ps h
@@ -86,28 +109,40 @@ ends_with_all ps h g le =
           ∙ ap (λ l. extent_with h (csums_of (take h.count ps)) ∷ extents_of l) (sym none);
     }
 
--- the first page's checksum, and those of the other pages of the extent
-first_csum : (ps : List (ℕ × Place)) (n : ℕ) (d : ℕ × Place) → 0 < n → n ≤ length ps
-    → csum_of (get_or ps 0 d).1 ∷ csums_of (take (n - 1) (drop 1 ps)) ≡ csums_of (take n ps)
-first_csum ps zero d some within = absurd (omega (arith, some))
-first_csum [] (suc n) d some within = absurd (omega (arith, within))
-first_csum (p ∷ ps) (suc n) d some within =
-    let e : suc n - 1 ≡ n = omega arith in
-    ap (λ k. csum_of p.1 ∷ csums_of (take k ps)) e
+-- an extent of pages on units is written
+pub private_written : (w : Width) (first unit : ℕ) (ps rest : List (ℕ × Place)) (csum count : ℕ) (d : ℕ × Place) (old mid new : List ℕ) → 0 < length ps
+    → rest ≡ drop 1 ps → count ≡ length ps → csum ≡ csum_of (get_or ps 0 d).1
+    → mid ≡ old ++ (extent_head (record { first = first; count = count; start = OnUnit unit }) ++ csum_bytes w csum)
+    → new ≡ mid ++ flat_map (csum_bytes w) (csums_of rest)
+    → new ≡ old ++ extent_bytes w (record { first = first; body = private unit (csums_of ps) })
+private_written w first unit [] rest csum count d old mid new some behind size is head others = absurd (omega (arith, some))
+private_written w first unit (p ∷ ps) rest csum count d old mid new some behind size is head others =
+    let front : List ℕ = extent_head (record { first = first; count = count; start = OnUnit unit }) in
+    let numbers : List ℕ = flat_map (csum_bytes w) (csums_of ps) in
+    let all : csum ∷ csums_of ps ≡ csums_of (p ∷ ps) = ap (λ (k : ℕ). k ∷ csums_of ps) is in
+    let sums : length (csums_of (p ∷ ps)) ≡ count = length-map (p ∷ ps) (λ (q : ℕ × Place). csum_of q.1) ∙ sym size in
+    others ∙ ap (λ (l : List (ℕ × Place)). mid ++ flat_map (csum_bytes w) (csums_of l)) behind
+    ∙ ap (λ (l : List ℕ). l ++ numbers) head ∙ append_assoc old (front ++ csum_bytes w csum) numbers
+    ∙ ap (λ (l : List ℕ). old ++ l) (append_assoc front (csum_bytes w csum) numbers
+    ∙ ap (λ (l : List ℕ). front ++ l) (sym (flat_map-cons (csum_bytes w) csum (csums_of ps)) ∙ ap (flat_map (csum_bytes w)) all)
+    ∙ head_then_kept w first count (OnUnit unit) (csums_of (p ∷ ps)) sums)
 
-pub run_written : (w : Width) (ps : List (ℕ × Place)) (h : Head) (csum count : ℕ) (d : ℕ × Place) (old mid new : List ℕ) → IsFirstRun ps h
-    → count ≡ h.count → csum ≡ csum_of (get_or ps 0 d).1 → mid ≡ old ++ (extent_head h ++ csum_bytes w csum)
-    → new ≡ mid ++ flat_map (csum_bytes w) (csums_of (take (count - 1) (drop 1 ps)))
+-- the first of the pages' extents is one on units
+pub run_on_units : (w : Width) (ps run : List (ℕ × Place)) (h : Head) (unit : ℕ) (old new : List ℕ) → h.start ≡ OnUnit unit → run ≡ take h.count ps
+    → new ≡ old ++ extent_bytes w (record { first = h.first; body = private unit (csums_of run) })
     → new ≡ old ++ extent_bytes w (extent_with h (csums_of (take h.count ps)))
-run_written w ps h csum count d old mid new run same is first others =
-    let behind : List ℕ = csums_of (take (h.count - 1) (drop 1 ps)) in
-    let numbers : List ℕ = flat_map (csum_bytes w) behind in
-    let all : csum ∷ behind ≡ csums_of (take h.count ps) = ap (λ (k : ℕ). k ∷ behind) is ∙ first_csum ps h.count d run.some run.within in
-    others ∙ ap (λ n. mid ++ flat_map (csum_bytes w) (csums_of (take (n - 1) (drop 1 ps)))) same
-    ∙ ap (λ (l : List ℕ). l ++ numbers) first ∙ append_assoc old (extent_head h ++ csum_bytes w csum) numbers
-    ∙ ap (λ (l : List ℕ). old ++ l) (append_assoc (extent_head h) (csum_bytes w csum) numbers
-    ∙ ap (λ (l : List ℕ). extent_head h ++ l) (sym (flat_map-cons (csum_bytes w) csum behind) ∙ ap (flat_map (csum_bytes w)) all)
-    ∙ head_then_csums w h (csums_of (take h.count ps)) (count_csums h.count ps run.within))
+run_on_units w ps run h unit old new on are is =
+    is ∙ ap (λ (l : List (ℕ × Place)). old ++ extent_bytes w (record { first = h.first; body = private unit (csums_of l) })) are
+    ∙ ap (λ (start : Start). old ++ extent_bytes w (record { first = h.first; body = body_with start h.count (csums_of (take h.count ps)) })) (sym on)
+
+-- it is one on slots
+pub run_on_slots : (w : Width) (ps : List (ℕ × Place)) (h : Head) (sbid index : ℕ) (old new : List ℕ) → IsFirstRun ps h → h.start ≡ OnSlot sbid index
+    → new ≡ old ++ extent_head h → new ≡ old ++ extent_bytes w (extent_with h (csums_of (take h.count ps)))
+run_on_slots w ps h sbid index old new run on is =
+    let csums = csums_of (take h.count ps) in
+    is ∙ ap (λ (l : List ℕ). old ++ l) (sym (append-nil (extent_head h))
+    ∙ ap (λ (start : Start). extent_head h ++ kept_bytes w start csums) (sym on)
+    ∙ head_then_kept w h.first h.count h.start csums (count_csums h.count ps run.within))
 
 -- the page behind those of the extent, by its place among the pages behind the first
 pub next_of : (ps rest : List (ℕ × Place)) (h : Head) (i : ℕ) (q : ℕ × Place) → rest ≡ drop 1 ps → h.count ≡ i + 1 → q ≡ get_or rest i q

@@ -1,14 +1,17 @@
 -- Pages as they stand in the value of a shard's row: put into a map as they are read, and written from a map's entries.
-use Rattle.std.specs.Prelude.{◌≡◌, ℕ, ◌<◌, ◌≤◌, List, ◌∷◌, ◌++◌, length, map, take, drop}
-use Rattle.std.specs.List.{AllByRecursion}
+use Rattle.std.specs.Prelude.{◌≡◌, ℕ, ◌+◌, ◌<◌, ◌≤◌, List, [], ◌∷◌, ◌++◌, length, map, take, drop}
+use Rattle.std.specs.List.{flat_map, AllByRecursion}
 use Rattle.unit_fields.specs.declared.width.Width.{Width}
-use Rattle.row_format.specs.Prelude.{Extent, private, Place, extent_bytes, FitsExtent}
+use Rattle.unit_fields.specs.Prelude.{bytes_of}
+use Rattle.row_format.specs.Prelude.{Extent, Body, private, shared, Place, csum_bytes, extent_bytes, FitsExtent}
 use Rattle.onode_codec.specs.declared.extent.Head.{Head}
+use Rattle.onode_codec.specs.declared.extent.Start.{Start}
+use Rattle.onode_codec.specs.declared.extent.Start.TheVariants.{Unit as OnUnit, Slot as OnSlot}
 use Rattle.onode_codec.specs.Reading.{ReadsCsums, ReadsExtent, SpellExtents}
 use Rattle.blob_map.specs.Pages.{PageMap, HasNumbers, csum_of, extent_pages, with_pages}
 use Rattle.blob_map.specs.Normal.{extents_of}
 
--- the bytes spell extents whose pages and units have numbers below 2^32
+-- the bytes spell extents whose numbers fit their fields
 pub record SpellPages (w : Width) (bytes : List ℕ) : Type 0 where
   pub extents : List Extent
   pub spelled : SpellExtents w bytes extents
@@ -22,15 +25,30 @@ pub record BeginsWithPages (w : Width) (bytes : List ℕ) : Type 0 where
   pub numbers : HasNumbers extent
   pub spelled : bytes ≡ extent_bytes w extent ++ rest
 
+-- so many pages from there on, with these checksums where they stand on units of the object's own
+abbrev pub body_with : Start → ℕ → List ℕ → Body
+body_with (OnUnit unit) count csums = private unit csums
+body_with (OnSlot sbid index) count csums = shared sbid index count
+
 -- the extent of a head with these checksums
 abbrev pub extent_with : Head → List ℕ → Extent
-extent_with h csums = record { first = h.first; body = private h.unit csums }
+extent_with h csums = record { first = h.first; body = body_with h.start h.count csums }
 
--- behind the head so many checksums were read, and their pages are put in their places
-pub record PutsFirst (w : Width) (h : Head) (count : ℕ) (old new : List ℕ) (pages pages' : PageMap) : Type 0 where
+-- what stands behind the head
+abbrev pub kept_bytes : Width → Start → List ℕ → List ℕ
+kept_bytes w (OnUnit unit) csums = flat_map (csum_bytes w) csums
+kept_bytes w (OnSlot sbid index) csums = []
+
+-- how many bytes the extent of a head has
+abbrev pub run_size : Width → Start → ℕ → ℕ
+run_size w (OnUnit unit) count = 11 + bytes_of w count
+run_size w (OnSlot sbid index) count = 17
+
+-- the first pages of an extent on units, so many of them: their checksums were read, and the pages are put in their places
+pub record PutsFirst (w : Width) (first unit count : ℕ) (old new : List ℕ) (pages pages' : PageMap) : Type 0 where
   pub csums : List ℕ
   pub read : ReadsCsums w count old new csums
-  pub put : pages' ≡ with_pages pages (extent_pages (extent_with h csums))
+  pub put : pages' ≡ with_pages pages (extent_pages (record { first = first; body = private unit csums }))
 
 -- an extent was read, and its pages are put in their places
 pub record PutsExtent (w : Width) (old new : List ℕ) (pages pages' : PageMap) : Type 0 where

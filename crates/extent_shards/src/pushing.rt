@@ -1,10 +1,11 @@
 //! A map cut into shards as their values are written: one pass over its pages.
 ghost use Rattle.std.specs.Prelude.{◌≡◌, ◌+◌, ◌<◌, ◌≤◌, Some, length, IfOk};
-ghost use Rattle.unit_fields.specs.Prelude.{bytes_of};
 ghost use Rattle.extent_shards.specs.Cuts.{WritesFront, WritesShard};
+ghost use Rattle.extent_shards.specs.Values.{run_size};
 
 use crate::writing::{HEAD_BYTES, first_run, pages_behind, push_run};
 use blob_map::Place;
+use onode_codec::{Head, Start};
 use std::alloc::AllocError;
 use unit_fields::Width;
 
@@ -20,13 +21,19 @@ pub struct Front {
     pub count: usize,
 }
 
-// The bytes of an extent of so many pages.
-fn run_bytes(width: Width, count: u16) -> u64
-    requires { count ≤ 256 }
-    ensures bytes { result ≡ 11 + bytes_of width count }
+// The bytes of an extent on slots of a shared blob.
+const SHARED_BYTES: u64 = 17;
+
+// The bytes of the extent with this head.
+fn run_bytes(width: Width, head: &Head) -> u64
+    requires { head.now.count ≤ 256 }
+    ensures bytes { result ≡ run_size width head.now.start head.now.count }
     ensures most { result ≤ 1035 }
 {
-    (HEAD_BYTES + width.bytes_of(usize::from(count))) as u64
+    match head.start {
+        Start::Unit(_) => (HEAD_BYTES + width.bytes_of(usize::from(head.count))) as u64,
+        Start::Slot { .. } => SHARED_BYTES,
+    }
 }
 
 // Writes the first shard of the pages, extent by extent, and says how many of them it has.
@@ -44,7 +51,7 @@ fn push_front(
     'extents: while count < pages.len() {
         let left = pages_behind(pages, count);
         let head = first_run(left);
-        bytes += run_bytes(width, head.count);
+        bytes += run_bytes(width, &head);
         if count > 0 && bytes > u64::from(bound) {
             return Ok(count);
         }

@@ -2,35 +2,60 @@
 ghost use Rattle.std.specs.Prelude.{◌≡◌, ◌+◌, ◌≤◌, ◌^◌, List, length, OnOk};
 ghost use Rattle.std.specs.List.{flat_map};
 ghost use Rattle.unit_fields.specs.Prelude.{bytes_of};
-ghost use Rattle.row_format.specs.Prelude.{Extent};
+ghost use Rattle.row_format.specs.Prelude.{Extent, shared};
 ghost use Rattle.onode_codec.specs.Reading.{SpellExtents};
 ghost use Rattle.blob_map.specs.Prelude.{extent_pages, with_pages};
 ghost use Rattle.extent_shards.specs.Values.{SpellPages, BeginsWithPages, PutsFirst, PutsExtent};
 
-use blob_map::{PageMap, Place};
-use onode_codec::{Head, read_csum};
+use blob_map::{At, PageMap, Place};
+use onode_codec::{Head, Start, read_csum};
 use std::alloc::AllocError;
 use unit_fields::{Fields, UnitNo, Width};
 
-// Reads the checksums behind a head, and puts each of its pages in its place.
-fn put_run(
+// Reads so many checksums, and puts a page for each of them on its unit.
+fn put_units(
     pages: &mut PageMap,
     width: Width,
-    head: &Head,
+    first: u32,
+    unit: UnitNo,
+    count: u16,
     fields: &mut Fields,
 ) -> Result<(), AllocError>
-    requires pages { head.now.first + head.now.count ≤ 2 ^ 32 }
-    requires units { head.now.unit + head.now.count ≤ 2 ^ 32 }
-    requires csums { bytes_of width head.now.count ≤ length fields.old }
-    ensures { OnOk result (PutsFirst width head.now head.now.count fields.old fields.new pages.old pages.new) }
+    requires pages { first + count ≤ 2 ^ 32 }
+    requires units { unit + count ≤ 2 ^ 32 }
+    requires csums { bytes_of width count ≤ length fields.old }
+    ensures { OnOk result (PutsFirst width first unit count fields.old fields.new pages.old pages.new) }
 {
-    let unit = head.unit.number();
-    for i in 0..u32::from(head.count) {
+    let number = unit.number();
+    for i in 0..u32::from(count) {
         let Some(csum) = read_csum(fields, width) else {
             unreachable!();
         };
-        let unit = UnitNo::new(unit + i);
-        pages.set(head.first + i, Place { unit, csum })?;
+        let unit = UnitNo::new(number + i);
+        let at = At::Unit { unit, csum };
+        pages.set(first + i, Place { at })?;
+    }
+    Ok(())
+}
+
+// Puts so many pages on slots of a blob.
+fn put_slots(
+    pages: &mut PageMap,
+    first: u32,
+    sbid: u64,
+    index: u16,
+    count: u16,
+) -> Result<(), AllocError>
+    requires pages { first + count ≤ 2 ^ 32 }
+    requires slots { index + count ≤ 2 ^ 16 }
+    ensures { OnOk result (pages.new ≡ with_pages pages.old (extent_pages (record { first = first; body = shared sbid index count }))) }
+{
+    for i in 0..count {
+        let at = At::Slot {
+            sbid,
+            index: index + i,
+        };
+        pages.set(first + u32::from(i), Place { at })?;
     }
     Ok(())
 }
@@ -42,7 +67,15 @@ fn put_extent(pages: &mut PageMap, width: Width, fields: &mut Fields) -> Result<
     let Some(head) = Head::read(fields) else {
         unreachable!();
     };
-    put_run(pages, width, &head, fields)
+    let Head {
+        first,
+        count,
+        start,
+    } = head;
+    match start {
+        Start::Unit(unit) => put_units(pages, width, first, unit, count, fields),
+        Start::Slot { sbid, index } => put_slots(pages, first, sbid, index, count),
+    }
 }
 
 /// Puts the pages of the extents that these bytes spell, with checksums of this width, in their places, one extent behind the other. Where

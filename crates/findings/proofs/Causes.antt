@@ -7,6 +7,7 @@ use Rattle.std.specs.FinMap as finite
 use Rattle.std.proofs.lemmas.Bool.{cases_lt}
 use Rattle.byte_maps.specs.ByteMap.{byte_order}
 use Rattle.crc32c_csum.specs.Prelude.{crc32c}
+use Rattle.unit_fields.specs.declared.width.Width.{Width}
 use Rattle.meta_rows.specs.Prelude.{Rows}
 use Rattle.meta_log.specs.declared.slot.Super.{Super}
 use Rattle.meta_log.specs.Prelude.{width_of}
@@ -14,11 +15,11 @@ use Rattle.object_model.specs.Prelude.{Object, Objects, object_under}
 use Rattle.row_format.specs.Prelude.{onode_key, shard}
 use Rattle.ordered_lists.specs.Lists.{IsIn, ListsAll}
 use Rattle.ordered_lists.proofs.Joining.{each_in}
-use Rattle.store_image.specs.Prelude.{IsShardInPlace, IsGoodRow, IsBadRow, NoBadRow, IsOwned, IsMarked, IsLeaked, HasSoleOwner, IsExact, IsInexact, IsLeastInexact, PageUnit, IsPageOn, IsPageSeen, ObjectsStand}
-use Rattle.store_image.proofs.Prelude.{in_place}
+use Rattle.store_image.specs.Prelude.{IsShardInPlace, IsGoodRow, IsBadRow, NoBadRow, IsOwned, IsMarked, IsLeaked, HasSoleOwner, IsExact, IsInexact, IsLeastInexact, HasSlot, HasWrongCount, PageUnit, IsPageOn, IsPageSeen, ObjectsStand}
+use Rattle.store_image.proofs.Prelude.{in_place, one_count}
 use Rattle.findings.specs.declared.finding.Finding.{Finding}
 use Rattle.findings.specs.declared.finding.Finding.TheVariants.{BadRow, Leaked, Unmarked, Doubled}
-use Rattle.findings.specs.Findings.{PageSum, ComesBefore, IsBadSum, AreBadSums, IsUnmarked, IsDoubled, AreUnits, UnitLists, AreWrongUnits, bad_sum, found_in, FindsBadRows, FindsNoBadRow, AreFindings}
+use Rattle.findings.specs.Findings.{PageSum, SlotCount, IsWrongCount, IsTold, ComesBefore, IsBadSum, AreBadSums, IsUnmarked, IsDoubled, AreUnits, UnitLists, AreWrongUnits, bad_sum, found_in, FindsBadRows, FindsNoBadRow, AreFindings}
 use Rattle.findings.proofs.Lists.{not_both}
 
 none_in : {A : Type 0} (P : A → Type 0) (xs : List A) → AllByRecursion P xs → ((x : A) → P x → ⊥) → xs ≡ []
@@ -50,6 +51,10 @@ module _ (s : Super) (at : ℕ → List ℕ) (rows : Rows) (objects : Objects) (
   no_leak : (unit : ℕ) → IsLeaked (width_of s) rows unit → ⊥
   no_leak unit leak = elim (exact.marked unit leak.is_unit leak.marked) [ inl owned ↦ leak.unowned owned | inr never ↦ never.0 ]
 
+  no_wrong_count : (x : SlotCount) → IsWrongCount (width_of s) rows x → ⊥
+  no_wrong_count x wrong = wrong.differs (one_count (width_of s) rows x.sbid x.index x.counted wrong.is.count wrong.is_counted
+      (exact.counts x.sbid x.index x.unit wrong.is wrong.has_slot))
+
   pub nothing_found : (found : List Finding) → AreFindings s (λ unit bytes. bytes ≡ at unit) rows found → found ≡ []
   nothing_found found (inl bad) = absurd (not_both s rows found bad good)
   nothing_found found (inr are) =
@@ -57,7 +62,8 @@ module _ (s : Super) (at : ℕ → List ℕ) (rows : Rows) (objects : Objects) (
       let leaked = none_in (IsLeaked (width_of s) rows) are.units.leaked are.are_units.are_leaked.each no_leak in
       let unmarked = none_in (IsUnmarked (width_of s) rows) are.units.unmarked are.are_units.are_unmarked.each (λ unit is. is.1 (exact.owned_marked unit is.0)) in
       let doubled = none_in (IsDoubled (width_of s) rows) are.units.doubled are.are_units.are_doubled.each (λ unit is. is (exact.one_owner unit)) in
-      are.is ∙ (λ i. found_in (pages i) (record { leaked = leaked i; unmarked = unmarked i; doubled = doubled i }))
+      let counts = none_in (IsWrongCount (width_of s) rows) are.units.counts are.are_units.are_counts.each no_wrong_count in
+      are.is ∙ (λ i. found_in (pages i) (record { leaked = leaked i; unmarked = unmarked i; doubled = doubled i; counts = counts i }))
 
 -- ---- what a mount tells
 
@@ -77,20 +83,53 @@ first_is_least s held rows key found bad good (inl are) = by are.keys are.are ar
           lists.each.0.is_not_good (good k lists.each.0.value less lists.each.0.stands))
     ]
 
--- the least unit without one owner and a mark
+-- a wrong count is told by the unit of its slot
+unit_among : (xs : List SlotCount) (x : SlotCount) → IsIn x xs → IsIn x.unit (map (λ (y : SlotCount). y.unit) xs)
+unit_among [] x is = is
+unit_among (y ∷ ys) x (inl same) = inl (ap (λ (z : SlotCount). z.unit) same)
+unit_among (y ∷ ys) x (inr later) = inr (unit_among ys x later)
+
+of_unit : (P : SlotCount → Type 0) (xs : List SlotCount) (unit : ℕ) → AllByRecursion P xs → IsIn unit (map (λ (y : SlotCount). y.unit) xs)
+    → (x : SlotCount) × (P x × (x.unit ≡ unit))
+of_unit P [] unit all is = absurd is
+of_unit P (y ∷ ys) unit all (inl same) = (y, (all.0, same))
+of_unit P (y ∷ ys) unit all (inr later) = of_unit P ys unit all.1 later
+
+counted_of : (w : Width) (rows : Rows) (unit : ℕ) → HasWrongCount w rows unit → (x : SlotCount) × (IsWrongCount w rows x × (x.unit ≡ unit))
+counted_of w rows unit has = (
+  record { unit = unit; sbid = has.sbid; index = has.index; kept = has.is.count; counted = has.counted },
+  (record { is = has.is; has_slot = has.has_slot; is_kept = refl; is_counted = has.is_counted; differs = has.differs }, refl),
+)
+
+-- the least unit without one owner and a mark, or with a wrong count
 pub least_is_listed : (s : Super) (rows : Rows) (unit : ℕ) (units : UnitLists) → AreWrongUnits (width_of s) rows units → IsLeastInexact (width_of s) rows unit
-    → IsIn unit units.unmarked ⊎ IsIn unit units.doubled
+    → IsTold units unit
 least_is_listed s rows unit units are least = elim least.inexact [
   | inl unmarked ↦ inl (are.are_unmarked.all unit unmarked)
-  | inr doubled ↦ inr (are.are_doubled.all unit doubled)
+  | inr (inl doubled) ↦ inr (inl (are.are_doubled.all unit doubled))
+  | inr (inr wrong) ↦
+      let x = counted_of (width_of s) rows unit wrong in
+      inr (inr (subst (λ u. IsIn u (map (λ (y : SlotCount). y.unit) units.counts)) x.1.1 (unit_among units.counts x.0 (are.are_counts.all x.0 x.1.0))))
 ]
 
 pub none_is_less : (s : Super) (rows : Rows) (unit : ℕ) (units : UnitLists) → AreWrongUnits (width_of s) rows units → IsLeastInexact (width_of s) rows unit
-    → (other : ℕ) → IsIn other units.unmarked ⊎ IsIn other units.doubled → unit ≤ other
+    → (other : ℕ) → IsTold units other → unit ≤ other
 none_is_less s rows unit units are least other listed = elim (cases_lt other unit) [
   | inr ge ↦ ge
   | inl less ↦ absurd (least.least other less (elim listed [
     | inl unmarked ↦ inl (each_in (IsUnmarked (width_of s) rows) units.unmarked other are.are_unmarked.each unmarked)
-    | inr doubled ↦ inr (each_in (IsDoubled (width_of s) rows) units.doubled other are.are_doubled.each doubled)
+    | inr (inl doubled) ↦ inr (inl (each_in (IsDoubled (width_of s) rows) units.doubled other are.are_doubled.each doubled))
+    | inr (inr counted) ↦
+        let x = of_unit (IsWrongCount (width_of s) rows) units.counts other are.are_counts.each counted in
+        let wrong = x.1.0 in
+        inr (inr (record {
+          sbid = x.0.sbid;
+          index = x.0.index;
+          is = wrong.is;
+          has_slot = subst (λ u. HasSlot (width_of s) rows x.0.sbid x.0.index u wrong.is) x.1.1 wrong.has_slot;
+          counted = x.0.counted;
+          is_counted = wrong.is_counted;
+          differs = wrong.differs;
+        }))
   ]))
 ]

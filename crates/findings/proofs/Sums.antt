@@ -44,7 +44,7 @@ module _ (s : Super) (rows : Rows) (good : NoBadRow s rows) where
   pub one_page : (c o : List ℕ) (page : ℕ) (a b : PageUnit) → IsPageOn (width_of s) rows c o page a → IsPageOn (width_of s) rows c o page b → a ≡ b
   one_page c o page a b p q =
       let same : p.place ≡ q.place = one_place s rows good c o page p.place q.place p.at q.at in
-      one_unit rows q.place a b (subst (λ (x : Place). StandsOn rows x a) same p.stands) q.stands
+      one_unit (width_of s) rows q.place a b (subst (λ (x : Place). StandsOn (width_of s) rows x a) same p.stands) q.stands
 
   module _ (at : ℕ → List ℕ) where
     abbrev Held : ℕ → List ℕ → Type 0

@@ -1,5 +1,5 @@
 -- The findings of a store: all that is wrong with it, in one order.
-use Rattle.std.specs.Prelude.{◌≡◌, ◌⊎◌, ℕ, ◌<◌, ◌^◌, List, ◌++◌, length, map}
+use Rattle.std.specs.Prelude.{◌≡◌, ◌≢◌, ◌⊎◌, ℕ, ◌<◌, ◌^◌, List, ◌++◌, length, map}
 use Rattle.std.specs.List.{AllByRecursion}
 use Rattle.std.specs.declared.cmp.Ordering.TheVariants.{Less}
 use Rattle.byte_maps.specs.ByteMap.{byte_order}
@@ -7,11 +7,12 @@ use Rattle.unit_fields.specs.declared.width.Width.{Width}
 use Rattle.meta_rows.specs.Prelude.{Rows}
 use Rattle.meta_log.specs.declared.slot.Super.{Super}
 use Rattle.meta_log.specs.Prelude.{width_of}
+use Rattle.row_format.specs.Prelude.{Slot}
 use Rattle.ordered_lists.specs.Lists.{IsIn, Ascend, ListsAll}
-use Rattle.store_image.specs.Prelude.{PageUnit, IsPageOn, IsBadRow, NoBadRow, IsOwned, IsMarked, IsLeaked, HasSoleOwner}
+use Rattle.store_image.specs.Prelude.{PageUnit, IsPageOn, IsBadRow, NoBadRow, IsOwned, IsMarked, IsLeaked, HasSoleOwner, HasSlot, IsCounted}
 use Rattle.read_facts.specs.Prelude.{no_memory, IsRead, IsBadPage}
 use Rattle.findings.specs.declared.finding.Finding.{Finding}
-use Rattle.findings.specs.declared.finding.Finding.TheVariants.{BadRow, BadSum, Leaked, Unmarked, Doubled}
+use Rattle.findings.specs.declared.finding.Finding.TheVariants.{BadRow, BadSum, Leaked, Unmarked, Doubled, WrongCount}
 
 -- ---- pages
 
@@ -63,28 +64,64 @@ IsDoubled w rows unit = ¬ HasSoleOwner w rows unit
 abbrev pub AreUnits : (ℕ → Type 0) → List ℕ → Type 0
 AreUnits P units = ListsAll (λ a b. a < b) P units
 
--- units by what is wrong with them
+-- a slot of a blob, its unit, the count that its blob's row keeps, and how many pages name it
+pub record SlotCount : Type 0 where
+  pub unit : ℕ
+  pub sbid : ℕ
+  pub index : ℕ
+  pub kept : ℕ
+  pub counted : ℕ
+
+-- by unit, by blob
+abbrev pub SlotBefore : SlotCount → SlotCount → Type 0
+SlotBefore a b = (a.unit < b.unit) ⊎ ((a.unit ≡ b.unit) × (a.sbid < b.sbid))
+
+-- the count is wrong
+pub record IsWrongCount (w : Width) (rows : Rows) (x : SlotCount) : Type 0 where
+  pub is : Slot
+  pub has_slot : HasSlot w rows x.sbid x.index x.unit is
+  pub is_kept : x.kept ≡ is.count
+  pub is_counted : IsCounted w rows x.sbid x.index x.counted
+  pub differs : x.counted ≢ is.count
+
+-- the slot is one of these
+abbrev pub IsSlotAmong : List SlotCount → ℕ → ℕ → Type 0
+IsSlotAmong slots sbid index = (x : SlotCount) × (IsIn x slots × ((x.sbid ≡ sbid) × (x.index ≡ index)))
+
+-- what is wrong with units, and with the counts of slots
 pub record UnitLists : Type 0 where
   pub leaked : List ℕ
   pub unmarked : List ℕ
   pub doubled : List ℕ
+  pub counts : List SlotCount
 
--- Those that are marked and that nobody owns, those that have an owner and aren't marked, and those that have two owners or more. Each other
--- unit that is marked has an owner.
+-- a unit is told as one without a mark, with two owners, or with a wrong count
+abbrev pub IsTold : UnitLists → ℕ → Type 0
+IsTold units unit = IsIn unit units.unmarked ⊎ (IsIn unit units.doubled ⊎ IsIn unit (map (λ (x : SlotCount). x.unit) units.counts))
+
+-- Those that are marked and that nobody owns, those that have an owner and aren't marked, those that have two owners or more, and the slots with
+-- wrong counts. Each other unit that is marked has an owner, and each other slot's count is right.
 pub record AreWrongUnits (w : Width) (rows : Rows) (units : UnitLists) : Type 0 where
   pub are_leaked : AreUnits (IsLeaked w rows) units.leaked
   pub are_unmarked : AreUnits (IsUnmarked w rows) units.unmarked
   pub are_doubled : AreUnits (IsDoubled w rows) units.doubled
+  pub are_counts : ListsAll SlotBefore (IsWrongCount w rows) units.counts
   pub others : (unit : ℕ) → unit < 2 ^ 32 → IsMarked rows unit → IsIn unit units.leaked ⊎ IsOwned w rows unit
+  pub right : (sbid index unit : ℕ) (is : Slot) → HasSlot w rows sbid index unit is
+      → IsSlotAmong units.counts sbid index ⊎ IsCounted w rows sbid index is.count
 
 -- ---- all findings
 
 abbrev pub bad_sum : PageSum → Finding
 bad_sum p = BadSum p.unit p.kept p.found
 
--- what is found where no row is bad (counts of shared blobs that are wrong are to stand behind these)
+abbrev pub wrong_count : SlotCount → Finding
+wrong_count x = WrongCount x.unit x.kept x.counted
+
+-- what is found where no row is bad
 abbrev pub found_in : List PageSum → UnitLists → List Finding
-found_in pages units = map bad_sum pages ++ (map Leaked units.leaked ++ (map Unmarked units.unmarked ++ map Doubled units.doubled))
+found_in pages units = map bad_sum pages
+    ++ (map Leaked units.leaked ++ (map Unmarked units.unmarked ++ (map Doubled units.doubled ++ map wrong_count units.counts)))
 
 -- there are bad rows: these are their keys, in their order
 pub record FindsBadRows (s : Super) (rows : Rows) (found : List Finding) : Type 0 where

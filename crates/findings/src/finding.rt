@@ -15,4 +15,6 @@ pub enum Finding {
     Unmarked { unit: u32 },
     /// The unit has two owners or more.
     Doubled { unit: u32 },
+    /// A slot of a shared blob on the unit keeps another count than pages name it.
+    WrongCount { unit: u32, kept: u32, counted: u64 },
 }

@@ -9,7 +9,7 @@ ghost use Rattle.meta_rows.specs.Prelude.{Rows};
 ghost use Rattle.meta_log.specs.declared.slot.Super.{Super};
 ghost use Rattle.meta_log.specs.Prelude.{width_of};
 ghost use Rattle.store_image.specs.Prelude.{PageUnit, IsPageOn, IsGoodRow, NoBadRow, IsBadRow, IsExact, IsLeastInexact, ObjectsStand};
-ghost use Rattle.findings.specs.Findings.{AreFindings, GivesKept, UnitLists, AreWrongUnits};
+ghost use Rattle.findings.specs.Findings.{AreFindings, GivesKept, UnitLists, IsTold, AreWrongUnits};
 ghost use Rattle.findings.specs.declared.finding.Finding.{Finding};
 ghost use Rattle.findings.specs.declared.finding.Finding.TheVariants.{BadRow};
 
@@ -27,15 +27,15 @@ pub fn a_good_store_has_no_finding()
 {}
 
 /// What a mount refuses a store for is among the findings: the least bad row is the first of them, and where no row is bad the least unit without
-/// one owner and a mark is the least one that is told so.
+/// one owner and a mark, or with a wrong count, is the least one that is told so.
 pub fn findings_tell_what_a_mount_tells()
     ensures row { (s : Super) (at : ℕ → List ℕ) (rows : Rows) (key : List ℕ) (found : List Finding) → IsBadRow s rows key →
         ((k value : List ℕ) → byte_order k key ≡ Less → map.get rows k ≡ Some value → IsGoodRow s rows k value) →
         AreFindings s (λ unit bytes. bytes ≡ at unit) rows found → (rest : List Finding) × (found ≡ BadRow key ∷ rest) }
     ensures unit { (s : Super) (rows : Rows) (unit : ℕ) (units : UnitLists) → AreWrongUnits (width_of s) rows units →
-        IsLeastInexact (width_of s) rows unit → IsIn unit units.unmarked ⊎ IsIn unit units.doubled }
+        IsLeastInexact (width_of s) rows unit → IsTold units unit }
     ensures least { (s : Super) (rows : Rows) (unit : ℕ) (units : UnitLists) → AreWrongUnits (width_of s) rows units →
-        IsLeastInexact (width_of s) rows unit → (other : ℕ) → IsIn other units.unmarked ⊎ IsIn other units.doubled → unit ≤ other }
+        IsLeastInexact (width_of s) rows unit → (other : ℕ) → IsTold units other → unit ≤ other }
 {}
 
 /// Where nothing is found, no row is bad, the bitmap is exact, and each page that stands on a unit is good.

@@ -1,7 +1,7 @@
 -- The pages of a shard, in their order.
 use Rattle.std.proofs.Common.{◌≡◌, ◌⊎◌, inl, inr, ℕ, zero, suc, ◌+◌, ◌-◌, ◌<◌, List, [], ◌∷◌, ◌++◌, length, map, Some, refl, sym, ap, ap₂, subst, ◌∙◌, arith}
 use Rattle.std.specs.Prelude.{slice_index}
-use Rattle.row_format.specs.Prelude.{Body, private, Extent, page_count, page_end, ExtentsAscend, own, place_in, place_of}
+use Rattle.row_format.specs.Prelude.{Body, private, shared, Extent, page_count, page_end, ExtentsAscend, own, slot, place_in, place_of}
 use Rattle.ordered_lists.specs.Lists.{ListsAll}
 use Rattle.ordered_lists.proofs.Joining.{lists_none, lists_one, lists_joined}
 use Rattle.row_check.proofs.RunMarks.{place_cases, first_has, later_has, page_from}
@@ -23,6 +23,7 @@ module _ (c o : List ℕ) where
 
   abbrev pub body_pages : ℕ → Body → List PageSum
   body_pages first (private unit csums) = run_pages first unit csums
+  body_pages first (shared sbid index count) = []
 
   abbrev pub shard_pages : List Extent → List PageSum
   shard_pages [] = []
@@ -34,6 +35,7 @@ module _ (c o : List ℕ) where
 
   body_places_are : (first : ℕ) (body : Body) → map unit_sum (body_pages first body) ≡ body_places body
   body_places_are first (private unit csums) = run_places first unit csums
+  body_places_are first (shared sbid index count) = refl
 
   pub map_joined : (xs ys : List PageSum) → map unit_sum (xs ++ ys) ≡ map unit_sum xs ++ map unit_sum ys
   map_joined [] ys = refl
@@ -83,9 +85,11 @@ module _ (c o : List ℕ) where
 
   abbrev InBody : ℕ → Body → PageSum → Type 0
   InBody first (private unit csums) p = InRun first unit csums p
+  InBody first (shared sbid index count) p = ⊥
 
   body_lists : (first : ℕ) (body : Body) → ListsAll ComesBefore (InBody first body) (body_pages first body)
   body_lists first (private unit csums) = run_lists first unit csums
+  body_lists first (shared sbid index count) = lists_none ComesBefore (InBody first (shared sbid index count)) (λ p is. is)
 
   -- the page stands where the shard has it
   pub record InShard (es : List Extent) (p : PageSum) : Type 0 where
@@ -105,6 +109,7 @@ module _ (c o : List ℕ) where
     fresh : p.found ≡ 0
 
   page_in : (first : ℕ) (body : Body) (p : PageSum) → InBody first body p → IsPageOf first body p
+  page_in first (shared sbid index count) p is = absurd is
   page_in first (private unit csums) p is = record {
     k = is.0;
     small = is.1;
@@ -121,7 +126,11 @@ module _ (c o : List ℕ) where
   own_csum : (a b u k : ℕ) → own a b ≡ own u k → b ≡ k
   own_csum a b u k e = cc
 
+  no_own : (sbid index unit csum : ℕ) → slot sbid index ≡ own unit csum → ⊥
+  no_own sbid index unit csum e = cc
+
   in_page : (first : ℕ) (body : Body) (p : PageSum) → IsPageOf first body p → InBody first body p
+  in_page first (shared sbid index count) p is = no_own sbid (index + is.k) p.unit p.kept is.place
   in_page first (private unit csums) p is = (
     is.k,
     is.small,

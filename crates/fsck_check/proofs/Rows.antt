@@ -13,17 +13,17 @@ use Rattle.unit_fields.specs.declared.width.Width.{Width}
 use Rattle.meta_rows.specs.Prelude.{Rows}
 use Rattle.meta_log.specs.declared.slot.Super.{Super}
 use Rattle.meta_log.specs.Prelude.{width_of}
-use Rattle.row_format.specs.Prelude.{shard_key, Extent, own, place_of, shard}
+use Rattle.row_format.specs.Prelude.{shard_key, Extent, Place, own, slot, place_of, shard}
 use Rattle.row_format.specs.Row as format
 use Rattle.row_format.proofs.Prelude.{is_shard_or_none}
-use Rattle.store_image.specs.Prelude.{HasRow, HasShard, IsShardInPlace, IsPageOn, NoBadRow}
-use Rattle.store_image.proofs.Prelude.{in_place, on_own, own_of}
+use Rattle.store_image.specs.Prelude.{HasRow, HasShard, IsShardInPlace, IsPageAt, PageUnit, StandsOn, IsPageOn, NoBadRow}
+use Rattle.store_image.proofs.Prelude.{in_place, on_own}
 use Rattle.row_reading.specs.Reading.{SpellsRow}
 use Rattle.row_reading.proofs.Entries.{AreRows, rising}
 use Rattle.row_reading.proofs.KeyOrder.{lesser_page}
 use Rattle.object_rows.proofs.NamesOrder.{ended}
 use Rattle.row_check.proofs.Walk.{has_spelled}
-use Rattle.row_check.proofs.MarkedRows.{RowAt, same_spelled, row_ascends}
+use Rattle.row_check.proofs.MarkedRows.{RowAt, same_spelled, row_ascends, no_slot}
 use Rattle.row_check.proofs.RunMarks.{page_below, page_of_shard}
 use Rattle.ordered_lists.specs.Lists.{ListsAll}
 use Rattle.ordered_lists.proofs.Joining.{lists_none, lists_joined, lists_as}
@@ -90,6 +90,16 @@ keys_ordered c o d u page other coll name coll2 name2 less =
 module _ (s : Super) (rows : Rows) (good : NoBadRow s rows) where
   placed : (c o : List ℕ) (page : ℕ) (es : List Extent) → HasShard (width_of s) rows c o page es → IsShardInPlace s rows c o page es
   placed c o page es has = in_place s rows (shard c o page es) good has
+
+  -- each page stands on a unit of its object's own so far
+  own_of : (c o : List ℕ) (page : ℕ) (on : PageUnit) → IsPageOn (width_of s) rows c o page on
+      → IsPageAt (width_of s) rows c o page (own on.unit on.csum)
+  own_of c o page on is = by is.place is.at is.stands
+    where
+      by : (place : Place) → IsPageAt (width_of s) rows c o page place → StandsOn (width_of s) rows place on
+          → IsPageAt (width_of s) rows c o page (own on.unit on.csum)
+      by (own unit csum) at there = subst (λ (u : PageUnit). IsPageAt (width_of s) rows c o page (own u.unit u.csum)) (sym there) at
+      by (slot sbid index) at there = absurd (no_slot s rows good sbid index on.unit there.0 there.1.0)
 
   -- the pages of a shard come before those of a later one
   shards_apart : (c o d u : List ℕ) (page other : ℕ) (es fs : List Extent) (x y : PageSum) → HasShard (width_of s) rows c o page es → HasShard (width_of s) rows d u other fs
@@ -171,7 +181,7 @@ module _ (s : Super) (rows : Rows) (good : NoBadRow s rows) where
 
     unmapped : length es ≤ i → (p : PageSum) → IsMapped p → InRowsTo (width_of s) es i p
     unmapped le p is =
-        let at = own_of (width_of s) rows p.coll p.object p.page (record { unit = p.unit; csum = p.kept }) is.on in
+        let at = own_of p.coll p.object p.page (record { unit = p.unit; csum = p.kept }) is.on in
         let has = at.has_shard in
         let where_it_is = are.stands (format.row_key (shard p.coll p.object at.first at.extents)) (format.row_value (width_of s) (shard p.coll p.object at.first at.extents)) has.stands in
         record {

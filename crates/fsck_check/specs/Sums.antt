@@ -5,7 +5,7 @@ use Rattle.byte_maps.specs.Units.{unit_at}
 use Rattle.unit_fields.specs.declared.width.Width.{Width}
 use Rattle.crc32c_csum.specs.Prelude.{crc32c}
 use Rattle.meta_rows.specs.Prelude.{Rows}
-use Rattle.row_format.specs.Prelude.{Body, private, Extent}
+use Rattle.row_format.specs.Prelude.{Body, private, shared, Extent}
 use Rattle.row_format.specs.Row as format
 use Rattle.row_reading.specs.Reading.{SpellsRow}
 use Rattle.findings.specs.declared.finding.Finding.{Finding}
@@ -21,8 +21,10 @@ abbrev pub unit_sums_from : ℕ → List ℕ → List UnitSum
 unit_sums_from unit [] = []
 unit_sums_from unit (csum ∷ csums) = (unit, csum) ∷ unit_sums_from (unit + 1) csums
 
+-- (Where no row is bad, no page stands on a slot so far.)
 abbrev pub body_places : Body → List UnitSum
 body_places (private unit csums) = unit_sums_from unit csums
+body_places (shared sbid first count) = []
 
 abbrev pub extent_places : Extent → List UnitSum
 extent_places e = body_places e.body

@@ -124,8 +124,12 @@ fn check_extent<D: Device>(
     ensures later { D.faults dev.old ≤ D.faults dev.new }
     ensures cause { IsErrOf result Failed.Fault → Rose (D.faults dev.old) (D.faults dev.new) }
 {
-    let Body::Private { unit, csums } = &extent.body;
-    check_units(dev, unit.number(), csums.as_slice(), buffer, found)
+    match &extent.body {
+        Body::Private { unit, csums } => {
+            check_units(dev, unit.number(), csums.as_slice(), buffer, found)
+        }
+        Body::Shared { .. } => Ok(()),
+    }
 }
 
 // Does so for the extents of a shard.

@@ -16,15 +16,15 @@ use Rattle.meta_rows.specs.declared.row_op.RowOp.{RowOp}
 use Rattle.meta_log.specs.declared.slot.Super.{Super}
 use Rattle.meta_log.specs.Prelude.{active_half, AreRowsOf, units_of_records, width_of, IsSuper, IsActiveSlot, active_unit, in_runs}
 use Rattle.meta_log.proofs.SlotLemmas.{same_active}
-use Rattle.store_image.specs.Prelude.{NoBadRow, IsOwned, IsExactAs, ObjectsStand, StandsFor, LeavesPrefix, EachCutStands}
-use Rattle.store_image.proofs.Prelude.{as_image, stays_by_rows, same_rows, objects_stand, page_owned, start_is_durable}
+use Rattle.store_image.specs.Prelude.{NoBadRow, HasPage, IsExactAs, ObjectsStand, StandsFor, LeavesPrefix, EachCutStands}
+use Rattle.store_image.proofs.Prelude.{as_image, stays_by_rows, same_rows, objects_stand, start_is_durable}
 use Rattle.log_facts.specs.Prelude.{WritesNoneOf, SlotsStand, RecordsStand, EndsInZeros, SoundFor, OtherHalfRests}
 use Rattle.log_facts.proofs.Keeping.{slots_push, last_push, written_behind, half_spares_slots, half_spares_data}
 use Rattle.log_facts.proofs.Mounting.{fresh_slots}
 use Rattle.log_facts.proofs.Reading.{half_inside}
 use Rattle.log_facts.proofs.Found.{found_records, records_push, records_left, objects_left, cleared_half}
 use Rattle.store_steps.specs.Prelude.{Found}
-use Rattle.plan_rows.proofs.OnData.{owned_on_data}
+use Rattle.plan_rows.proofs.OnData.{page_on_data}
 use Rattle.crash_facts.specs.Store.{contents_at, IsMounted}
 use Rattle.log_replay.specs.Prelude.{IsAllClean, IsZeroing, IsCleared, ClearsSoFar, IsFoundIn}
 use Rattle.mount_replay.specs.Mounting.{behind_records}
@@ -88,17 +88,17 @@ module _ (f : Found) (recs : List (List RowOp)) (objects : Objects) where
   spares_records Flush is unit from below covers = covers
   spares_records (Done ticket ok) is unit from below covers = covers
 
-  spares_owned : (h : History) → StoreStands f recs objects h → (event : Event) → Zeroes event → (unit : ℕ)
-      → IsOwned (width_of f.sup) f.rows unit → ¬ WritesUnit unit event
-  spares_owned h stands (Write at bytes) is unit owned covers =
-      half_spares_data f.sup at unit bytes (omega (arith, is.3, ap length is.1 ∙ length-zeros (4096 * is.0))) (owned_on_data f.sup f.rows unit stands.good owned).0 covers
-  spares_owned h stands Flush is unit owned covers = covers
-  spares_owned h stands (Done ticket ok) is unit owned covers = covers
+  spares_pages : (h : History) → StoreStands f recs objects h → (event : Event) → Zeroes event → (unit : ℕ)
+      → HasPage (width_of f.sup) f.rows unit → ¬ WritesUnit unit event
+  spares_pages h stands (Write at bytes) is unit has covers =
+      half_spares_data f.sup at unit bytes (omega (arith, is.3, ap length is.1 ∙ length-zeros (4096 * is.0))) (page_on_data f.sup f.rows unit stands.good has).0 covers
+  spares_pages h stands Flush is unit has covers = covers
+  spares_pages h stands (Done ticket ok) is unit has covers = covers
 
   stands_push : (h : History) (event : Event) → StoreStands f recs objects h → Zeroes event → StoreStands f recs objects (with_event h event)
   stands_push h event stands is =
       let inside = fits h event stands is in
-      let spared = spares_owned h stands event is in record {
+      let spared = spares_pages h stands event is in record {
         whole = stands.whole;
         whole_now = ap length (last-push h.start h.log event) ∙ length-after_event event (last h.start h.log) inside ∙ stands.whole_now;
         slots = slots_push h f.sup event inside (spares_slots event is) stands.slots;
@@ -107,9 +107,9 @@ module _ (f : Found) (recs : List (List RowOp)) (objects : Objects) where
         sound = record {
           good = stands.sound.good;
           stand = objects_stand (width_of f.sup) (last_at h) (last_at (with_event h event)) f.rows
-              (λ unit has. sym (last_push h event unit inside (spared unit (page_owned (width_of f.sup) f.rows unit has))))
+              (λ unit has. sym (last_push h event unit inside (spared unit has)))
               objects stands.sound.stand;
-          clean = λ unit has. clean_push h.log event unit (stands.sound.clean unit has) (spared unit (page_owned (width_of f.sup) f.rows unit has));
+          clean = λ unit has. clean_push h.log event unit (stands.sound.clean unit has) (spared unit has);
         };
       }
 

@@ -14,12 +14,11 @@ use Rattle.object_model.specs.declared.command.Answer.TheVariants as answer
 use Rattle.meta_rows.specs.Prelude.{Rows, row}
 use Rattle.unit_fields.specs.Prelude.{IsName, IsCollName}
 use Rattle.unit_fields.specs.declared.width.Width.{Width}
-use Rattle.row_format.specs.Prelude.{Extent, own, coll_key, onode_key, attr_key, header_key, omap_key, onode}
-use Rattle.store_image.specs.Prelude.{HasKey, HasOnode, IsPageAt, HasPage, HasObject}
-use Rattle.store_image.proofs.Prelude.{in_place, on_own}
-use Rattle.page_lookup.specs.Prelude.{place_found, FindPagesOf}
+use Rattle.row_format.specs.Prelude.{Extent, coll_key, onode_key, attr_key, header_key, omap_key, onode}
+use Rattle.store_image.specs.Prelude.{HasKey, HasOnode, PageUnit, HasPage, IsDataUnit, HasObject}
+use Rattle.store_image.proofs.Prelude.{in_place}
+use Rattle.plan_rows.proofs.OnData.{page_on_data}
 use Rattle.onode_state.specs.Objects.{IsObjectFound}
-use Rattle.object_rows.proofs.GoodPages.{good_page}
 use Rattle.object_rows.specs.Stores.{AreRowsOfAStore, AreRowsOfWidth}
 use Rattle.read_facts.specs.declared.view.BadSum.{BadSum}
 use Rattle.read_facts.specs.declared.view.ValueView.{ValueView}
@@ -28,7 +27,8 @@ use Rattle.read_facts.proofs.Keys.{none_of}
 use Rattle.read_facts.proofs.Found.{sum_taken, answer_given, object_missing, object_there}
 use Rattle.page_sources.specs.declared.parts.PartFail.{PartFail}
 use Rattle.page_sources.specs.declared.parts.PartFail.TheVariants as why
-use Rattle.page_sources.specs.Prelude.{CanRead, HasPageToRead, IsPartFail}
+use Rattle.page_sources.specs.Prelude.{unit_with, PagesByRows, unit_found, FindUnitsOf, CanRead, HasPageToRead, IsPartFail}
+use Rattle.object_reader.proofs.FoundLemmas.{units_found}
 use Rattle.object_reader.specs.Missing.{IsObjectMissing}
 use Rattle.object_reader.specs.Readable.{IsReadable}
 use Rattle.object_reader.specs.Ranges.{GivesRange, GivesSum}
@@ -87,28 +87,14 @@ module _ (rows : Rows) (c o : List ℕ) where
 
 -- ---- an object that is there
 
-module _ (w : Width) (memory : ℕ → Option (List ℕ)) (d : Disk) (rows : Rows) (c o : List ℕ) (size : ℕ) (pages : List Extent)
-    (can : IsReadable w memory rows d) (found : IsObjectFound w rows c o size pages) where
+module _ (w : Width) (memory : ℕ → Option (List ℕ)) (d : Disk) (rows : Rows) (c o : List ℕ) (size : ℕ) (extents : List Extent)
+    (can : IsReadable w memory rows d) (found : IsObjectFound w rows c o size extents) where
   has : HasOnode rows c o size
   has = found.has_size
-
-  are_pages : FindPagesOf w rows c o pages
-  are_pages = found.are_pages
 
   -- so its collection is there too
   pub is_there : HasObject rows c o
   is_there = ((in_place can.sup rows (onode c o size) can.good has).0, ap is_some has.stands)
-
-  -- a page that is found stands on its unit
-  page_on : (page unit csum : ℕ) → place_found pages page ≡ Some (own unit csum) → HasPage w rows unit
-  page_on page unit csum at = record {
-    coll = c;
-    object = o;
-    page = page;
-    on = record { unit = unit; csum = csum };
-    is_on = on_own w rows c o page unit csum ((are_pages page (own unit csum)).0 at);
-    is_unit = refl;
-  }
 
   -- a range within an object's limit isn't refused
   pub range_taken : IsCollName c → IsName o → (off len : ℕ) → nat_lt object_limit (off + len) ≡ false
@@ -120,101 +106,108 @@ module _ (w : Width) (memory : ℕ → Option (List ℕ)) (d : Disk) (rows : Row
   pub whole_taken : IsCollName c → IsName o → IsNotRefused rows (ask.Read (reads.Sum c o))
   whole_taken coll name = sum_taken rows c o coll name is_there.0 is_there.1
 
-  pub can_read : CanRead memory d pages
-  can_read = record {
-    units_most = omega (arith, can.units, can.limits.units_most);
-    free = λ page unit csum at none. can.free unit (page_on page unit csum at) none;
-    inside = λ page unit csum at.
-        let here = subst (λ v. IsPageAt v rows c o page (own unit csum)) (sym can.wide) ((are_pages page (own unit csum)).0 at) in
-        let good = good_page can.sup rows c o can.good size page (own unit csum) has here in
-        omega (arith, can.units, good.on_data.1);
-    whole = can.whole;
-  }
-
   pub size_most : size ≤ object_limit
   size_most = (in_place can.sup rows (onode c o size) can.good has).1
 
-  -- the bytes of a range
-  pub bytes_answer : (off len : ℕ) (bytes : List ℕ) → IsNotRefused rows (ask.Read (reads.Bytes c o off len)) → GivesRange memory d pages size off len bytes
-      → IsAnswerOf w memory (IsHeldAt d) rows (reads.Bytes c o off len) (answer.Bytes bytes)
-  bytes_answer off len bytes none gives =
-      (none, (size, record { has_size = has; pages = gives.whole; good = gives.good.good w rows c o are_pages; cut = gives.cut }))
+  -- its pages, on the units where they are found
+  module _ (pages : PagesByRows) (are : pages ≡ record { width = w; rows = rows; extents = extents }) where
+    are_pages : FindUnitsOf w rows c o pages
+    are_pages = subst (FindUnitsOf w rows c o) (sym are) (units_found w rows c o extents (rows_of_width w memory rows d can) found.are_pages)
 
-  -- a bad page of a range
-  pub read_fails : (off len : ℕ) (fail : PartFail) (a : Answer) → IsNotRefused rows (ask.Read (reads.Bytes c o off len))
-      → IsPartFail memory d pages (off / 4096) (pages_read size off len) fail → IsCsumOf fail a
-      → IsAnswerOf w memory (IsHeldAt d) rows (reads.Bytes c o off len) a
-  read_fails off len (why.BadPage bad) a none fails is = subst (IsAnswerOf w memory (IsHeldAt d) rows (reads.Bytes c o off len)) (sym is)
-      (none, (size, record { has_size = has; first_bad = fails w rows c o are_pages }))
-  read_fails off len why.Memory a none fails is = absurd is
-  read_fails off len why.Fault a none fails is = absurd is
+    page_on : (page : ℕ) (on : PageUnit) → unit_found pages page ≡ Some on → HasPage w rows on.unit
+    page_on page on at = record { coll = c; object = o; page = page; on = on; is_on = (are_pages page on).0 at; is_unit = refl }
 
-  -- a page of a range that the device has to be read for
-  needs_device : (off len : ℕ) → HasPageToRead memory pages (off / 4096) (pages_read size off len) → RangeNeedsDevice w memory rows c o size off len
-  needs_device off len one = record {
-    has_size = has;
-    index = one.index;
-    within = one.within;
-    on = record { unit = one.unit; csum = one.is_on.0 };
-    is_on = on_own w rows c o (off / 4096 + one.index) one.unit one.is_on.0
-        ((are_pages (off / 4096 + one.index) (own one.unit one.is_on.0)).0 one.is_on.1);
-    not_in_memory = one.not_in_memory;
-  }
+    pub can_read : CanRead memory d pages
+    can_read = record {
+      units_most = omega (arith, can.units, can.limits.units_most);
+      free = λ page on at none. can.free on.unit (page_on page on at) none;
+      inside = λ page on at.
+          let here = subst (λ v. HasPage v rows on.unit) (sym can.wide) (page_on page on at) in
+          let on_data : IsDataUnit can.sup on.unit = page_on_data can.sup rows on.unit can.good here in
+          omega (arith, can.units, on_data.1);
+      whole = can.whole;
+    }
 
-  -- the device fails only where there is one
-  pub read_needs : (off len : ℕ) (fail : PartFail) → IsNotRefused rows (ask.Read (reads.Bytes c o off len))
-      → IsPartFail memory d pages (off / 4096) (pages_read size off len) fail → fail ≡ why.Fault
-      → ReadNeedsDevice w memory rows (reads.Bytes c o off len)
-  read_needs off len fail none fails is =
-      (none, (size, needs_device off len (subst (IsPartFail memory d pages (off / 4096) (pages_read size off len)) is fails)))
+    -- the bytes of a range
+    pub bytes_answer : (off len : ℕ) (bytes : List ℕ) → IsNotRefused rows (ask.Read (reads.Bytes c o off len)) → GivesRange memory d pages size off len bytes
+        → IsAnswerOf w memory (IsHeldAt d) rows (reads.Bytes c o off len) (answer.Bytes bytes)
+    bytes_answer off len bytes none gives =
+        (none, (size, record { has_size = has; pages = gives.whole; good = gives.good.good w rows c o are_pages; cut = gives.cut }))
 
-  pub sum_needs : (fail : PartFail) → IsNotRefused rows (ask.Read (reads.Sum c o)) → IsPartFail memory d pages 0 (pages_read size 0 size) fail
-      → fail ≡ why.Fault → ReadNeedsDevice w memory rows (reads.Sum c o)
-  sum_needs fail none fails is = (none, (size, needs_device 0 size (subst (IsPartFail memory d pages 0 (pages_read size 0 size)) is fails)))
+    -- a bad page of a range
+    pub read_fails : (off len : ℕ) (fail : PartFail) (a : Answer) → IsNotRefused rows (ask.Read (reads.Bytes c o off len))
+        → IsPartFail memory d pages (off / 4096) (pages_read size off len) fail → IsCsumOf fail a
+        → IsAnswerOf w memory (IsHeldAt d) rows (reads.Bytes c o off len) a
+    read_fails off len (why.BadPage bad) a none fails is = subst (IsAnswerOf w memory (IsHeldAt d) rows (reads.Bytes c o off len)) (sym is)
+        (none, (size, record { has_size = has; first_bad = fails w rows c o are_pages }))
+    read_fails off len why.Memory a none fails is = absurd is
+    read_fails off len why.Fault a none fails is = absurd is
 
-  -- the checksum of all bytes
-  gives_sum : (crc : ℕ) → GivesSum memory d pages size crc → Gives w memory (IsHeldAt d) rows (reads.Sum c o) (answer.Sum size crc)
-  gives_sum crc gives =
-      let whole = gives.gives in (
-        gives.bytes,
-        (record { has_size = has; pages = whole.whole; good = whole.good.good w rows c o are_pages; cut = whole.cut }, gives.is),
-      )
+    -- a page of a range that the device has to be read for
+    needs_device : (off len : ℕ) → HasPageToRead memory pages (off / 4096) (pages_read size off len) → RangeNeedsDevice w memory rows c o size off len
+    needs_device off len one = record {
+      has_size = has;
+      index = one.index;
+      within = one.within;
+      on = unit_with one.unit one.is_on.0;
+      is_on = (are_pages (off / 4096 + one.index) (unit_with one.unit one.is_on.0)).0 one.is_on.1;
+      not_in_memory = one.not_in_memory;
+    }
 
-  gives_bad : (bad : BadSum) → IsPartFail memory d pages 0 (pages_read size 0 size) (why.BadPage bad)
-      → Gives w memory (IsHeldAt d) rows (reads.Sum c o) (answer.Csum bad.unit bad.kept bad.found)
-  gives_bad bad fails = (size, record { has_size = has; first_bad = fails w rows c o are_pages })
+    -- the device fails only where there is one
+    pub read_needs : (off len : ℕ) (fail : PartFail) → IsNotRefused rows (ask.Read (reads.Bytes c o off len))
+        → IsPartFail memory d pages (off / 4096) (pages_read size off len) fail → fail ≡ why.Fault
+        → ReadNeedsDevice w memory rows (reads.Bytes c o off len)
+    read_needs off len fail none fails is =
+        (none, (size, needs_device off len (subst (IsPartFail memory d pages (off / 4096) (pages_read size off len)) is fails)))
 
-  pub sum_gives : (crc : ℕ) → IsNotRefused rows (ask.Read (reads.Sum c o)) → GivesSum memory d pages size crc
-      → IsAnswerOf w memory (IsHeldAt d) rows (reads.Sum c o) (answer.Sum size crc)
-  sum_gives crc none gives = (none, gives_sum crc gives)
+    pub sum_needs : (fail : PartFail) → IsNotRefused rows (ask.Read (reads.Sum c o)) → IsPartFail memory d pages 0 (pages_read size 0 size) fail
+        → fail ≡ why.Fault → ReadNeedsDevice w memory rows (reads.Sum c o)
+    sum_needs fail none fails is = (none, (size, needs_device 0 size (subst (IsPartFail memory d pages 0 (pages_read size 0 size)) is fails)))
 
-  pub sum_fails : (fail : PartFail) (a : Answer) → IsNotRefused rows (ask.Read (reads.Sum c o)) → IsPartFail memory d pages 0 (pages_read size 0 size) fail
-      → IsCsumOf fail a → IsAnswerOf w memory (IsHeldAt d) rows (reads.Sum c o) a
-  sum_fails (why.BadPage bad) a none fails is = subst (IsAnswerOf w memory (IsHeldAt d) rows (reads.Sum c o)) (sym is) (none, gives_bad bad fails)
-  sum_fails why.Memory a none fails is = absurd is
-  sum_fails why.Fault a none fails is = absurd is
+    -- the checksum of all bytes
+    gives_sum : (crc : ℕ) → GivesSum memory d pages size crc → Gives w memory (IsHeldAt d) rows (reads.Sum c o) (answer.Sum size crc)
+    gives_sum crc gives =
+        let whole = gives.gives in (
+          gives.bytes,
+          (record { has_size = has; pages = whole.whole; good = whole.good.good w rows c o are_pages; cut = whole.cut }, gives.is),
+        )
 
-  -- what a view shows
-  sums : (read : Result ℕ PartFail) (sum : Result ℕ BadSum) → IfOk read (GivesSum memory d pages size)
-      → IfErr read (IsPartFail memory d pages 0 (pages_read size 0 size)) → IsSumOf read sum
-      → Gives w memory (IsHeldAt d) rows (reads.Sum c o) (sum_answer size sum)
-  sums (Ok crc) sum good fails is =
-      subst (λ (s : Result ℕ BadSum). Gives w memory (IsHeldAt d) rows (reads.Sum c o) (sum_answer size s)) (sym is) (gives_sum crc good)
-  sums (Err (why.BadPage bad)) sum good fails is =
-      subst (λ (s : Result ℕ BadSum). Gives w memory (IsHeldAt d) rows (reads.Sum c o) (sum_answer size s)) (sym is) (gives_bad bad fails)
-  sums (Err why.Memory) sum good fails is = absurd is
-  sums (Err why.Fault) sum good fails is = absurd is
+    gives_bad : (bad : BadSum) → IsPartFail memory d pages 0 (pages_read size 0 size) (why.BadPage bad)
+        → Gives w memory (IsHeldAt d) rows (reads.Sum c o) (answer.Csum bad.unit bad.kept bad.found)
+    gives_bad bad fails = (size, record { has_size = has; first_bad = fails w rows c o are_pages })
 
-  pub shows : (read : Result ℕ PartFail) (sum : Result ℕ BadSum) → IsObject rows c o → IfOk read (GivesSum memory d pages size)
-      → IfErr read (IsPartFail memory d pages 0 (pages_read size 0 size)) → IsSumOf read sum
-      → (attrs omap : List ValueView) (header : List ℕ) → AreValues (attr_key c o) rows attrs → AreValues (omap_key c o) rows omap
-      → header ≡ row rows (header_key c o)
-      → IsViewOf w memory (IsHeldAt d) rows c (record { name = o; size = size; sum = sum; attrs = attrs; header = header; omap = omap })
-  shows read sum is good fails same attrs omap header are_attrs are_pairs is_header = record {
-    is = is;
-    has_size = has;
-    sums = sums read sum good fails same;
-    attrs = are_attrs;
-    header = is_header;
-    omap = are_pairs;
-  }
+    pub sum_gives : (crc : ℕ) → IsNotRefused rows (ask.Read (reads.Sum c o)) → GivesSum memory d pages size crc
+        → IsAnswerOf w memory (IsHeldAt d) rows (reads.Sum c o) (answer.Sum size crc)
+    sum_gives crc none gives = (none, gives_sum crc gives)
+
+    pub sum_fails : (fail : PartFail) (a : Answer) → IsNotRefused rows (ask.Read (reads.Sum c o)) → IsPartFail memory d pages 0 (pages_read size 0 size) fail
+        → IsCsumOf fail a → IsAnswerOf w memory (IsHeldAt d) rows (reads.Sum c o) a
+    sum_fails (why.BadPage bad) a none fails is = subst (IsAnswerOf w memory (IsHeldAt d) rows (reads.Sum c o)) (sym is) (none, gives_bad bad fails)
+    sum_fails why.Memory a none fails is = absurd is
+    sum_fails why.Fault a none fails is = absurd is
+
+    -- what a view shows
+    sums : (read : Result ℕ PartFail) (sum : Result ℕ BadSum) → IfOk read (GivesSum memory d pages size)
+        → IfErr read (IsPartFail memory d pages 0 (pages_read size 0 size)) → IsSumOf read sum
+        → Gives w memory (IsHeldAt d) rows (reads.Sum c o) (sum_answer size sum)
+    sums (Ok crc) sum good fails is =
+        subst (λ (s : Result ℕ BadSum). Gives w memory (IsHeldAt d) rows (reads.Sum c o) (sum_answer size s)) (sym is) (gives_sum crc good)
+    sums (Err (why.BadPage bad)) sum good fails is =
+        subst (λ (s : Result ℕ BadSum). Gives w memory (IsHeldAt d) rows (reads.Sum c o) (sum_answer size s)) (sym is) (gives_bad bad fails)
+    sums (Err why.Memory) sum good fails is = absurd is
+    sums (Err why.Fault) sum good fails is = absurd is
+
+    pub shows : (read : Result ℕ PartFail) (sum : Result ℕ BadSum) → IsObject rows c o → IfOk read (GivesSum memory d pages size)
+        → IfErr read (IsPartFail memory d pages 0 (pages_read size 0 size)) → IsSumOf read sum
+        → (attrs omap : List ValueView) (header : List ℕ) → AreValues (attr_key c o) rows attrs → AreValues (omap_key c o) rows omap
+        → header ≡ row rows (header_key c o)
+        → IsViewOf w memory (IsHeldAt d) rows c (record { name = o; size = size; sum = sum; attrs = attrs; header = header; omap = omap })
+    shows read sum is good fails same attrs omap header are_attrs are_pairs is_header = record {
+      is = is;
+      has_size = has;
+      sums = sums read sum good fails same;
+      attrs = are_attrs;
+      header = is_header;
+      omap = are_pairs;
+    }

@@ -1,3 +1,4 @@
 pub mod ReadLemmas
 pub mod AnswerLemmas
 pub mod ValueRanges
+pub mod FoundLemmas

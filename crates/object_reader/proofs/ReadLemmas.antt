@@ -10,10 +10,9 @@ use Rattle.crc32c_csum.specs.Prelude.{crc32c, remainder, all_ones}
 use Rattle.crc32c_csum.proofs.Linear.{remainder-append}
 use Rattle.block_device.specs.Prelude.{Disk}
 use Rattle.store_image.specs.Prelude.{pages_of}
-use Rattle.row_format.specs.Prelude.{Extent}
 use Rattle.read_facts.specs.Prelude.{read_end, pages_read}
 use Rattle.page_sources.specs.declared.parts.PartFail.{PartFail}
-use Rattle.page_sources.specs.Prelude.{AreSums, GivesPages, IsPartFail}
+use Rattle.page_sources.specs.Prelude.{PagesByRows, AreSums, GivesPages, IsPartFail}
 use Rattle.page_sources.proofs.PartLemmas.{no_pages, more_pages, fails_behind}
 use Rattle.object_reader.specs.Ranges.{GivesRange, IsDigestOf, GivesSum}
 
@@ -34,7 +33,7 @@ some_page_read size off len lt = by (nat_lt off (read_end size off len)) refl
     by false is = absurd (omega (arith, lt, ltb-false off (read_end size off len) is))
 
 -- an empty range
-pub empty_range : (memory : ℕ → Option (List ℕ)) (d : Disk) (pages : List Extent) (size off len end : ℕ) (bytes : List ℕ)
+pub empty_range : (memory : ℕ → Option (List ℕ)) (d : Disk) (pages : PagesByRows) (size off len end : ℕ) (bytes : List ℕ)
     → end ≡ read_end size off len → end ≤ off → bytes ≡ []
     → GivesRange memory d pages size off len bytes
 empty_range memory d pages size off len end bytes is le none =
@@ -46,7 +45,7 @@ empty_range memory d pages size off len end bytes is le none =
     }
 
 -- a range with bytes, from the pages that it must read
-pub cut_range : (memory : ℕ → Option (List ℕ)) (d : Disk) (pages : List Extent) (size off len end first behind : ℕ) (whole bytes : List ℕ)
+pub cut_range : (memory : ℕ → Option (List ℕ)) (d : Disk) (pages : PagesByRows) (size off len end first behind : ℕ) (whole bytes : List ℕ)
     → end ≡ read_end size off len → off < end
     → first ≡ off / 4096 → behind ≡ pages_of end → GivesPages memory d pages first (behind - first) whole
     → bytes ≡ take (end - off) (drop (off % 4096) whole) → GivesRange memory d pages size off len bytes
@@ -69,7 +68,7 @@ range_fits off end first behind size lt from to is = omega (arith, lt, from, to,
 -- ---- the checksum
 
 -- of no page
-pub digest_of_none : (memory : ℕ → Option (List ℕ)) (d : Disk) (pages : List Extent) (size : ℕ) → IsDigestOf memory d pages size 0 all_ones
+pub digest_of_none : (memory : ℕ → Option (List ℕ)) (d : Disk) (pages : PagesByRows) (size : ℕ) → IsDigestOf memory d pages size 0 all_ones
 digest_of_none memory d pages size = record {
   whole = [];
   good = no_pages memory d pages 0 0 [] refl refl;
@@ -78,7 +77,7 @@ digest_of_none memory d pages size = record {
 }
 
 -- of one run more
-pub digest_of_more : (memory : ℕ → Option (List ℕ)) (d : Disk) (pages : List Extent) (size next count digest : ℕ) (part front : List ℕ)
+pub digest_of_more : (memory : ℕ → Option (List ℕ)) (d : Disk) (pages : PagesByRows) (size next count digest : ℕ) (part front : List ℕ)
     → 4096 * next ≤ size
     → front ≡ take (size - 4096 * next) part → IsDigestOf memory d pages size next digest → GivesPages memory d pages next count part
     → IsDigestOf memory d pages size (next + count) (remainder digest front)
@@ -143,7 +142,7 @@ pub no_more_pages : (size : ℕ) → pages_of size ≡ pages_read size 0 size
 no_more_pages size = sym (pages_of_all size)
 
 -- of all pages of an object
-pub sum_of_all : (memory : ℕ → Option (List ℕ)) (d : Disk) (pages : List Extent) (size count digest crc : ℕ) → count ≡ pages_of size
+pub sum_of_all : (memory : ℕ → Option (List ℕ)) (d : Disk) (pages : PagesByRows) (size count digest crc : ℕ) → count ≡ pages_of size
     → crc ≡ bit_xor digest all_ones
     → IsDigestOf memory d pages size count digest → GivesSum memory d pages size crc
 unfolding crc32c
@@ -158,7 +157,7 @@ sum_of_all memory d pages size count digest crc is sum all = record {
 }
 
 -- a bad page behind those that were taken in
-pub sum_fails_behind : (memory : ℕ → Option (List ℕ)) (d : Disk) (pages : List Extent) (size next end digest : ℕ) (fail : PartFail)
+pub sum_fails_behind : (memory : ℕ → Option (List ℕ)) (d : Disk) (pages : PagesByRows) (size next end digest : ℕ) (fail : PartFail)
     → end ≡ pages_of size → next ≤ end
     → IsDigestOf memory d pages size next digest → IsPartFail memory d pages next (end - next) fail → IsPartFail memory d pages 0 (pages_read size 0 size) fail
 sum_fails_behind memory d pages size next end digest fail is below so_far fails =

@@ -27,7 +27,7 @@ use object_model::{Answer, Read, Refusal, ends_too_far};
 use object_rows::object_names;
 use onode_codec::{attr_key, coll_key, header_key, omap_key, onode_key};
 use onode_state::{find_object, object_size};
-use page_sources::PartFail;
+use page_sources::{PartFail, UnitPages};
 use std::alloc::{AllocError, Global};
 use unit_fields::{CollName, Name, Width};
 use write_buffers::WriteBuffers;
@@ -160,14 +160,15 @@ fn answer_read<D: Device>(
     ensures later { D.faults device.old ≤ D.faults device.new }
     ensures cause { IsErrOf result ReadFail.Fault → Rose (D.faults device.old) (D.faults device.new) }
 {
-    let Some(mut found) = find_object(alloc, width, rows, coll, object)? else {
+    let Some(found) = find_object(alloc, width, rows, coll, object)? else {
         return Ok(Answer::Refused(missing_refusal(alloc, rows, coll)?));
     };
     if ends_too_far(off, len) {
         return Ok(Answer::Refused(Refusal::BadRange));
     }
     let size = found.size;
-    match read_range(alloc, device, buffers, &mut found.pages, size, off, len) {
+    let mut pages = UnitPages::new(width, rows, found.pages);
+    match read_range(alloc, device, buffers, &mut pages, size, off, len) {
         Ok(bytes) => Ok(Answer::Bytes(Bytes::from_vec(bytes))),
         Err(why) => csum_answer(why),
     }
@@ -190,11 +191,12 @@ fn answer_sum<D: Device>(
     ensures later { D.faults device.old ≤ D.faults device.new }
     ensures cause { IsErrOf result ReadFail.Fault → Rose (D.faults device.old) (D.faults device.new) }
 {
-    let Some(mut found) = find_object(alloc, width, rows, coll, object)? else {
+    let Some(found) = find_object(alloc, width, rows, coll, object)? else {
         return Ok(Answer::Refused(missing_refusal(alloc, rows, coll)?));
     };
     let size = found.size;
-    match sum(alloc, device, buffers, &mut found.pages, size) {
+    let mut pages = UnitPages::new(width, rows, found.pages);
+    match sum(alloc, device, buffers, &mut pages, size) {
         Ok(crc) => Ok(Answer::Sum { size, crc }),
         Err(why) => csum_answer(why),
     }

@@ -1,6 +1,6 @@
 //! Reads of objects: bytes of a range, their checksum, and an object whole, in a walk over all of them. Pages whose units are in memory, since
 //! their transaction isn't committed, are copied from there. The others come from the device, in reads of up to 64 consecutive units, and the
-//! checksum of each is compared with the one that the object's extents keep.
+//! checksum of each is compared with the one that is kept for it: by the object's extents, or by the row of a shared blob.
 //!
 //! In Ceph's BlueStore this is `_do_read` with `_read_cache` and `_verify_csum`.
 //!

@@ -16,8 +16,7 @@ ghost use Rattle.object_reader.specs.Ranges.{GivesRange, GivesSum};
 
 use block_device::Device;
 use crc32c_csum::Digest;
-use page_lookup::ShardPages;
-use page_sources::{PartFail, Sums, read_part};
+use page_sources::{PartFail, Sums, UnitPages, read_part};
 use std::alloc::Global;
 use unit_fields::limits::UNIT_BYTES;
 use write_buffers::WriteBuffers;
@@ -39,7 +38,7 @@ fn read_pages<D: Device>(
     alloc: Global,
     device: &mut D,
     buffers: &WriteBuffers,
-    pages: &mut ShardPages,
+    pages: &mut UnitPages,
     first: u32,
     end: u32,
 ) -> Result<Vec<u8>, PartFail>
@@ -82,7 +81,7 @@ pub fn read_range<D: Device>(
     alloc: Global,
     device: &mut D,
     buffers: &WriteBuffers,
-    pages: &mut ShardPages,
+    pages: &mut UnitPages,
     size: u64,
     off: u64,
     len: u64,
@@ -134,7 +133,7 @@ pub fn sum<D: Device>(
     alloc: Global,
     device: &mut D,
     buffers: &WriteBuffers,
-    pages: &mut ShardPages,
+    pages: &mut UnitPages,
     size: u64,
 ) -> Result<u32, PartFail>
     requires can { CanRead (memory_in buffers.now) (D.disk device.old) pages.old }

@@ -15,7 +15,7 @@ use meta_rows::RowTable;
 use object_rows::next_name;
 use onode_codec::header_key;
 use onode_state::find_object;
-use page_sources::PartFail;
+use page_sources::{PartFail, UnitPages};
 use read_facts::{BadSum, ObjectView};
 use std::alloc::Global;
 use unit_fields::{CollName, Name, Width};
@@ -52,11 +52,12 @@ fn view_of<D: Device>(
     ensures later { D.faults device.old ≤ D.faults device.new }
     ensures cause { IsErrOf result ReadFail.Fault → Rose (D.faults device.old) (D.faults device.new) }
 {
-    let Some(mut found) = find_object(alloc, width, rows, coll, &name)? else {
+    let Some(found) = find_object(alloc, width, rows, coll, &name)? else {
         unreachable!()
     };
     let size = found.size;
-    let sum = sum_or_bad(sum(alloc, device, buffers, &mut found.pages, size))?;
+    let mut pages = UnitPages::new(width, rows, found.pages);
+    let sum = sum_or_bad(sum(alloc, device, buffers, &mut pages, size))?;
     let attrs = attributes_of(alloc, rows, coll, &name)?;
     let header = row_bytes(alloc, rows, &header_key(alloc, coll, &name)?)?;
     let omap = pairs_of(alloc, rows, coll, &name)?;

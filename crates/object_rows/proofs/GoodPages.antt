@@ -7,7 +7,7 @@ use Rattle.unit_fields.specs.declared.width.Width.{Width}
 use Rattle.meta_rows.specs.Prelude.{Rows}
 use Rattle.meta_log.specs.declared.slot.Super.{Super}
 use Rattle.meta_log.specs.Prelude.{width_of, data_unit}
-use Rattle.row_format.specs.Prelude.{Extent, Body, private, page_count, page_end, place_in, place_of, Place, own, FitsBody, FitsExtent, shard, FitsCsum}
+use Rattle.row_format.specs.Prelude.{Extent, Body, private, shared, page_count, page_end, place_in, place_of, Place, own, slot, FitsBody, FitsExtent, shard, FitsCsum}
 use Rattle.store_image.specs.Prelude.{HasOnode, HasShard, IsPageAt, pages_of, IsOnData, IsShardInPlace, NoBadRow, Owner, page_of, Owns, IsDataUnit, IsOwned}
 use Rattle.store_image.proofs.Prelude.{in_place}
 use Rattle.blob_map.specs.Prelude.{StandsWithin}
@@ -51,12 +51,15 @@ found_in P (e ∷ es) page place all is = elim (cases_Bool (nat_le e.first page 
 
 data_unit_of : (s : Super) (body : Body) (i : ℕ) → IsOnData s body → i < page_count body → StandsWithin (data_unit s) s.units (place_in body i)
 data_unit_of s (private unit csums) i on lt = (omega (arith, on.0), omega (arith, on.1, lt))
+data_unit_of s (shared sbid first count) i on lt = tt
 
 -- the checksum that is kept there fits its field
 abbrev pub CsumFits : Width → Place → Type 0
 CsumFits w (own unit csum) = FitsCsum w csum
+CsumFits w (slot sbid index) = Unit {0}
 
 csum_of : (w : Width) (body : Body) (i : ℕ) → FitsBody w body → i < page_count body → CsumFits w (place_in body i)
+csum_of w (shared sbid first count) i fits lt = tt
 csum_of w (private unit csums) i fits lt = by csums i fits.3 lt
   where
     by : (cs : List ℕ) (i : ℕ) → AllByRecursion (FitsCsum w) cs → i < length cs → FitsCsum w (get_or cs i 0)
@@ -86,14 +89,3 @@ module _ (s : Super) (rows : Rows) (c o : List ℕ) (good : NoBadRow s rows) whe
         csum = subst (CsumFits (width_of s)) d.is (csum_of (width_of s) d.extent.body (page - d.extent.first) d.holds.body
             (omega (arith, d.from, d.below)));
       }
-
--- an owned unit is a data unit
-pub owned_is_data : (s : Super) (rows : Rows) (unit : ℕ) → NoBadRow s rows → IsOwned (width_of s) rows unit → IsDataUnit s unit
-owned_is_data s rows unit good owned = by owned.0 owned.1
-  where
-    by : (owner : Owner) → Owns (width_of s) rows owner unit → IsDataUnit s unit
-    by (page_of c o page) owns =
-        let is = owns.1 in
-        let on = (placed s rows c o good is.first is.extents is.has_shard).on_data in
-        let b = found_in (λ e. IsOnData s e.body) is.extents page (own unit owns.0) on is.has_page in
-        subst (StandsWithin (data_unit s) s.units) b.is (data_unit_of s b.extent.body (page - b.extent.first) b.holds (omega (arith, b.from, b.below)))

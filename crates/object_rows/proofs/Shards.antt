@@ -9,11 +9,11 @@ use Rattle.meta_log.specs.declared.slot.Super.{Super}
 use Rattle.meta_log.specs.Prelude.{width_of, data_unit}
 use Rattle.unit_fields.specs.Prelude.{IsName, IsCollName}
 use Rattle.unit_fields.specs.declared.width.Width.{Width}
-use Rattle.row_format.specs.Prelude.{shard_key, Extent, Body, private, page_count, page_end, place_in, place_of, Place, ExtentsAscend, BeginsAt, FitsExtent, Row, onode, shard, row_key}
+use Rattle.row_format.specs.Prelude.{shard_key, shared_key, Extent, Body, private, shared, page_count, page_end, place_in, place_of, Place, ExtentsAscend, BeginsAt, FitsBody, FitsExtent, Row, onode, shard, row_key}
 use Rattle.row_format.proofs.Prelude.{under_shard}
-use Rattle.store_image.specs.Prelude.{HasKey, HasRow, HasOnode, HasShard, IsPageAt, pages_of, IsOnData, IsShardInPlace, NoBadRow}
-use Rattle.store_image.proofs.Prelude.{in_place, one_place}
-use Rattle.blob_map.specs.Prelude.{HasNumbers, first_unit}
+use Rattle.store_image.specs.Prelude.{HasKey, HasRow, HasOnode, HasShard, IsPageAt, pages_of, IsOnData, HasSlots, IsShardInPlace, NoBadRow}
+use Rattle.store_image.proofs.Prelude.{in_place, one_place, blob_there}
+use Rattle.blob_map.specs.Prelude.{HasNumbers, AreNumbered}
 use Rattle.unit_fields.specs.UnitSet.{Ascends}
 use Rattle.object_rows.specs.Shards.{AreShards, ShardsAscend, AreShardsOf, extents_in}
 use Rattle.object_rows.proofs.Lists.{all_append}
@@ -43,8 +43,13 @@ pub both_all : {X : Type 0} (P Q R : X → Type 0) → ((x : X) → P x → Q x 
 both_all P Q R f [] p q = tt
 both_all P Q R f (x ∷ xs) p q = (f x p.0 q.0, both_all P Q R f xs p.1 q.1)
 
-body_on : (s : Super) (body : Body) → IsOnData s body → (data_unit s ≤ first_unit body) × (first_unit body + page_count body ≤ s.units)
-body_on s (private unit csums) on = on
+-- the numbers of a body on data units or on slots that its blob has fit their fields
+body_numbered : (s : Super) (rows : Rows) (c : List ℕ) → NoBadRow s rows → s.units ≤ 2 ^ 32 → (body : Body) → IsOnData s body
+    → HasSlots (width_of s) rows c body → FitsBody (width_of s) body → AreNumbered body
+body_numbered s rows c good most (private unit csums) on slots fits = omega (arith, on.1, most)
+body_numbered s rows c good most (shared sbid first count) on slots fits =
+    let row = blob_there s rows sbid fits.0 good (finite.get rows (shared_key sbid)) refl slots.0 in
+    (fits.0, omega (arith, slots.1 row.0 row.1.0 row.1.1, row.1.1.fits.few))
 
 module _ (xs ys : List Extent) (page : ℕ) where
   pub found_left : (place : Place) → place_of xs page ≡ Some place → place_of (xs ++ ys) page ≡ Some place
@@ -110,6 +115,14 @@ module _ (s : Super) (rows : Rows) (c o : List ℕ) (good : NoBadRow s rows) whe
   shards_ascend (x ∷ xs) has rise = ascend_append x.1 (extents_in xs) (shard_in x has.0).ascend (shards_ascend xs has.1 rise.1)
       (all_map (λ e. AllByRecursion (λ later. page_end e ≤ later.0) xs) (λ e. AllByRecursion (λ y. page_end e ≤ y.first) (extents_in xs))
       (λ e from. later_from (page_end e) xs has.1 from) x.1 (turned x.1 xs (ends_below x xs has.0 has.1 rise.0)))
+
+  shard_numbered : s.units ≤ 2 ^ 32 → (x : ℕ × List Extent) → IsThere x → AllByRecursion (λ e. AreNumbered e.body) x.1
+  shard_numbered most x has =
+      let placed = both_all (λ e. HasSlots (width_of s) rows c e.body) (FitsExtent (width_of s))
+      (λ e. HasSlots (width_of s) rows c e.body × FitsBody (width_of s) e.body) (λ e slots fits. (slots, fits.body)) x.1 (shard_in x has).slots
+      has.fits.fit in
+      both_all (λ e. IsOnData s e.body) (λ e. HasSlots (width_of s) rows c e.body × FitsBody (width_of s) e.body) (λ e. AreNumbered e.body)
+      (λ e on its. body_numbered s rows c good most e.body on its.0 its.1) x.1 (shard_in x has).on_data placed
 
   -- a row under the key of a shard is that shard
   shard_row : IsCollName c → IsName o → (page : ℕ) → page < 2 ^ 32 → (x : Row) → HasRow (width_of s) rows x → shard_key c o page ≡ row_key x
@@ -183,9 +196,10 @@ module _ (s : Super) (rows : Rows) (c o : List ℕ) (good : NoBadRow s rows) whe
     pub by_shards_numbers : (size : ℕ) → HasOnode rows c o size → s.units ≤ 2 ^ 32 → AllByRecursion HasNumbers (extents_in shards)
     by_shards_numbers size has most =
         let few : pages_of size ≤ 2 ^ 32 = omega (arith, (in_place s rows (onode c o size) good has).1) in
-        both_all (λ e. page_end e ≤ pages_of size) (λ e. IsOnData s e.body) HasNumbers
-        (λ e le on. record { pages = omega (arith, le, few); units = omega (arith, (body_on s e.body on).1, most) })
-        (extents_in shards) (by_shards_within size has) by_shards_on_data
+        both_all (λ e. page_end e ≤ pages_of size) (λ e. AreNumbered e.body) HasNumbers
+        (λ e le places. record { pages = omega (arith, le, few); places = places })
+        (extents_in shards) (by_shards_within size has)
+        (all_extents (width_of s) rows c o (λ e. AreNumbered e.body) (λ x h. shard_numbered most x h) shards are.there)
 
     pub by_shards_pages : (page : ℕ) (place : Place) → (place_of (extents_in shards) page ≡ Some place) ↔ IsPageAt (width_of s) rows c o page place
     by_shards_pages page place = (

@@ -33,6 +33,7 @@ fn coll_in(alloc: Global, key: &[u8]) -> Result<CollName, AllocError>
     match read_key(alloc, key)? {
         Some(RowKey::Collection { coll }) => Ok(coll),
         Some(RowKey::Object { .. }) => unreachable!(),
+        Some(RowKey::Blob { .. }) => unreachable!(),
         Some(RowKey::Bitmap { .. }) => unreachable!(),
         None => unreachable!(),
     }
@@ -52,6 +53,7 @@ fn object_in(alloc: Global, key: &[u8]) -> Result<Name, AllocError>
             },
         ) => Ok(object),
         Some(RowKey::Collection { .. }) => unreachable!(),
+        Some(RowKey::Blob { .. }) => unreachable!(),
         Some(RowKey::Bitmap { .. }) => unreachable!(),
         None => unreachable!(),
     }

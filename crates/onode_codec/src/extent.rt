@@ -1,26 +1,47 @@
 //! An object's extents, and their one spelling.
-ghost use Rattle.std.specs.Prelude.{◌≡◌, ◌<◌, ◌≤◌, ◌++◌, List, length, IfOk, OnOk, MatchOption};
+ghost use Rattle.std.specs.Prelude.{◌≡◌, ◌<◌, ◌≤◌, ◌∷◌, ◌++◌, List, length, IfOk, OnOk, MatchOption};
 ghost use Rattle.std.specs.List.{flat_map, AllByRecursion};
 ghost use Rattle.std.specs.Int.{w16, w32, from_le_bytes, to_le_bytes};
 ghost use Rattle.unit_fields.specs.Prelude.{bytes_of};
-ghost use Rattle.row_format.specs.Prelude.{csum_bytes, Extent, private, extent_bytes, FitsExtent};
-ghost use Rattle.onode_codec.specs.Reading.{extent_head, BeginsWithNoExtent, ReadsHead, ReadsCsums, ReadsExtent, SpellExtents};
+ghost use Rattle.row_format.specs.Prelude.{csum_bytes, Extent, private, shared, page_count, extent_bytes, FitsExtent};
+ghost use Rattle.onode_codec.specs.Bodies.{body_of};
+ghost use Rattle.onode_codec.specs.Reading.{extent_head, BeginsWithNoExtent, HasNoStart, ReadsStart, ReadsFront, ReadsHead, ReadsCsums, ReadsExtent, SpellExtents};
 
 use crate::csum::{push_csum, read_csum};
 use byte_maps::{Bytes, Items};
 use std::alloc::{AllocError, Global};
 use std::marker::Model;
 use unit_fields::limits::EXTENT_PAGES;
-use unit_fields::{Fields, UnitNo, Width, push_u16_le, push_u32_le};
+use unit_fields::{Fields, UnitNo, Width};
 
-// The kind of an extent whose units are the object's own.
+// The kind of an extent whose units are the object's own, and of one on slots of a shared blob.
 const PRIVATE: u8 = 0;
+
+const SHARED: u8 = 1;
 
 /// Where the pages of an extent stand (Ceph's blob).
 #[derive(Drop)]
 pub enum Body {
     /// On consecutive units of the object's own, from `unit` on. There is one checksum for each page, in the pages' order.
     Private { unit: UnitNo, csums: Items<u32> },
+    /// On so many consecutive slots of a shared blob, from `first` on.
+    Shared { sbid: u64, first: u16, count: u16 },
+}
+
+impl Body {
+    /// How many pages stand there.
+    pub fn page_count(&self) -> u64
+        ensures { result ≡ page_count (body_of self.now) }
+    {
+        match self {
+            Body::Private { unit: _, csums } => csums.len() as u64,
+            Body::Shared {
+                sbid: _,
+                first: _,
+                count,
+            } => u64::from(*count),
+        }
+    }
 }
 
 /// Consecutive pages of an object, and where they stand. There are as many pages as the body says.
@@ -41,15 +62,42 @@ impl Model for Extent {
     ghost view = { λ a. record { first = a.first; body = body_of a.body } };
 }
 
-/// The fields of an extent on units of the object's own, in front of its checksums.
+/// Where the first page of an extent stands.
+#[derive(Clone, Copy)]
+pub enum Start {
+    /// On this unit of the object's own.
+    Unit(UnitNo),
+    /// On this slot of a shared blob.
+    Slot { sbid: u64, index: u16 },
+}
+
+/// The fields of an extent, in front of its checksums.
 #[derive(Clone, Copy)]
 pub struct Head {
     /// The first page.
     pub first: u32,
-    /// How many pages there are. As many checksums follow.
+    /// How many pages there are. Where they stand on units of the object's own, as many checksums follow.
     pub count: u16,
-    /// The unit of the first page.
-    pub unit: UnitNo,
+    /// Where the first page stands.
+    pub start: Start,
+}
+
+// Where the first page stands, by the extent's kind, which was read before.
+fn read_start(kind: u8, fields: &mut Fields) -> Option<Start>
+    ensures { MatchOption result (HasNoStart (kind ∷ fields.old)) (ReadsStart (kind ∷ fields.old) fields.new) }
+{
+    match kind {
+        PRIVATE => {
+            let unit = fields.u32()?;
+            Some(Start::Unit(UnitNo::new(unit)))
+        }
+        SHARED => {
+            let sbid = fields.u64()?;
+            let index = fields.u16()?;
+            Some(Start::Slot { sbid, index })
+        }
+        _ => None,
+    }
 }
 
 // The numbers that bytes are, and that spell them.
@@ -67,19 +115,31 @@ fn u32_from_le(bytes: [u8; 4]) -> u32
     u32::from_le_bytes(bytes)
 }
 
+// The front of an extent: its first page, how many pages there are, and its kind.
+fn read_front(fields: &mut Fields) -> Option<(u32, u16, u8)>
+    ensures { MatchOption result (length fields.old < 7) (λ front. ReadsFront fields.old fields.new front.0 front.1 front.2) }
+{
+    let (front, rest) = fields.rest().split_first_chunk::<7>()?;
+    *fields = Fields::new(rest);
+    let [a, b, c, d, low, high, kind] = *front;
+    let first = u32_from_le([a, b, c, d]);
+    let count = u16_from_le([low, high]);
+    Some((first, count, kind))
+}
+
 impl Head {
     /// The head at the front. None: no extent of 1 to 256 pages stands there, and the fields may be read.
     pub fn read(fields: &mut Fields) -> Option<Head>
         ensures { MatchOption result ((width : Width) → BeginsWithNoExtent width fields.old) (ReadsHead fields.old fields.new) }
     {
-        let (front, rest) = fields.rest().split_first_chunk::<11>()?;
-        *fields = Fields::new(rest);
-        let [a, b, c, d, low, high, kind, p, q, r, s] = *front;
-        let first = u32_from_le([a, b, c, d]);
-        let count = u16_from_le([low, high]);
-        let unit = UnitNo::new(u32_from_le([p, q, r, s]));
-        if kind == PRIVATE && count > 0 && count <= EXTENT_PAGES {
-            Some(Head { first, count, unit })
+        let (first, count, kind) = read_front(fields)?;
+        let start = read_start(kind, fields)?;
+        if count > 0 && count <= EXTENT_PAGES {
+            Some(Head {
+                first,
+                count,
+                start,
+            })
         } else {
             None
         }
@@ -89,10 +149,26 @@ impl Head {
     pub fn push(&self, out: &mut Vec<u8>) -> Result<(), AllocError>
         ensures { OnOk result (out.new.items ≡ out.old.items ++ extent_head self.now) }
     {
-        let [a, b, c, d] = self.first.to_le_bytes();
-        let [low, high] = self.count.to_le_bytes();
-        let [p, q, r, s] = self.unit.number().to_le_bytes();
-        out.extend_from_slice(&[a, b, c, d, low, high, PRIVATE, p, q, r, s])
+        push_head(out, self.first, self.count, &self.start)
+    }
+}
+
+// Writes the fields of a head in one piece.
+fn push_head(out: &mut Vec<u8>, first: u32, count: u16, start: &Start) -> Result<(), AllocError>
+    ensures { OnOk result (out.new.items ≡ out.old.items ++ extent_head (record { first = first; count = count; start = start.now })) }
+{
+    let [a, b, c, d] = first.to_le_bytes();
+    let [low, high] = count.to_le_bytes();
+    match start {
+        Start::Unit(unit) => {
+            let [p, q, r, s] = unit.number().to_le_bytes();
+            out.extend_from_slice(&[a, b, c, d, low, high, PRIVATE, p, q, r, s])
+        }
+        Start::Slot { sbid, index } => {
+            let [p, q, r, s, t, u, v, w] = sbid.to_le_bytes();
+            let [x, y] = index.to_le_bytes();
+            out.extend_from_slice(&[a, b, c, d, low, high, SHARED, p, q, r, s, t, u, v, w, x, y])
+        }
     }
 }
 
@@ -119,18 +195,43 @@ fn push_private(
     let head = Head {
         first,
         count: csums.len() as u16,
-        unit,
+        start: Start::Unit(unit),
     };
     head.push(out)?;
     push_csums(out, width, csums)
+}
+
+// The same of one on slots of a shared blob.
+fn push_shared(
+    out: &mut Vec<u8>,
+    width: Width,
+    first: u32,
+    sbid: u64,
+    index: u16,
+    count: u16,
+) -> Result<(), AllocError>
+    ensures { OnOk result (out.new.items ≡ out.old.items ++ extent_bytes width (record { first = first; body = shared sbid index count })) }
+{
+    let head = Head {
+        first,
+        count,
+        start: Start::Slot { sbid, index },
+    };
+    head.push(out)
 }
 
 fn push_extent(out: &mut Vec<u8>, width: Width, extent: &Extent) -> Result<(), AllocError>
     requires { FitsExtent width extent.now }
     ensures { OnOk result (out.new.items ≡ out.old.items ++ extent_bytes width extent.now) }
 {
-    let Body::Private { unit, csums } = &extent.body;
-    push_private(out, width, extent.first, *unit, csums.as_slice())
+    match &extent.body {
+        Body::Private { unit, csums } => {
+            push_private(out, width, extent.first, *unit, csums.as_slice())
+        }
+        Body::Shared { sbid, first, count } => {
+            push_shared(out, width, extent.first, *sbid, *first, *count)
+        }
+    }
 }
 
 /// The value of a shard's row, with checksums of this width: its extents, one behind the other. Each has 1 to 256 pages.
@@ -173,16 +274,28 @@ fn read_extent(
     let Some(head) = Head::read(fields) else {
         return Ok(None);
     };
-    let Some(csums) = read_csums(alloc, width, fields, head.count)? else {
-        return Ok(None);
-    };
     let Head {
         first,
-        count: _,
-        unit,
+        count,
+        start,
     } = head;
-    let body = Body::Private { unit, csums };
-    Ok(Some(Extent { first, body }))
+    match start {
+        Start::Unit(unit) => match read_csums(alloc, width, fields, count)? {
+            Some(csums) => {
+                let body = Body::Private { unit, csums };
+                Ok(Some(Extent { first, body }))
+            }
+            None => Ok(None),
+        },
+        Start::Slot { sbid, index } => {
+            let body = Body::Shared {
+                sbid,
+                first: index,
+                count,
+            };
+            Ok(Some(Extent { first, body }))
+        }
+    }
 }
 
 /// The extents that a shard's value spells, with checksums of this width. None: it is no spelling of any extents of 1 to 256 pages

@@ -17,13 +17,13 @@ use Rattle.unit_fields.specs.declared.width.Width.{Width}
 use Rattle.row_format.specs.Prelude.{ExtentsAscend, object_key, onode_key, shard_key}
 use Rattle.row_reading.proofs.KeyOrder.{has_front, onode_before}
 use Rattle.onode_codec.specs.Reading.{SpellsOnode}
-use Rattle.page_lookup.specs.Prelude.{rows_read, HasUnit, FindPagesOf}
+use Rattle.page_lookup.specs.Prelude.{rows_read, HasNumber, FindPagesOf}
 use Rattle.object_rows.specs.Stores.{AreRowsOfWidth}
 use Rattle.onode_state.specs.Objects.{IsObjectFound}
 use Rattle.onode_state.proofs.ShardRows as own
 use Rattle.onode_state.proofs.ShardRows.{IsShardEntry, In, KeysRise, filtered_all, in_filtered, filtered_rise, sorted_rise, not_less, then_less, both_so}
 use Rattle.onode_state.proofs.OnodeRows.{all_so, in_all, fails, filtered_twice, between, onode_outside, stands_at, onode_ends, value_is_onode, size_is_read}
-use Rattle.onode_state.proofs.FoundPages.{pages_ascend, pages_found, units_fit}
+use Rattle.onode_state.proofs.FoundPages.{pages_ascend, pages_found, numbers_fit}
 
 abbrev Entry : Type 0
 Entry = List ℕ × List ℕ
@@ -136,8 +136,8 @@ module _ (w : Width) (rows : Rows) (c o : List ℕ) (coll : IsCollName c) (name 
         record {
           has_size = size_is_read w rows c o coll name good x value size first_own.stands is value_is spelled;
           are_pages = subst (λ v. FindPagesOf v rows c o (rows_read v rest)) good.wide finds;
-          units = subst (λ v. (page : ℕ) → HasUnit (rows_read v rest) page) good.wide
-              (units_fit rows c o (rows_read (width_of good.store.sup) rest) coll name good.store finds);
+          numbers = subst (λ v. (page : ℕ) → HasNumber (rows_read v rest) page) good.wide
+              (numbers_fit rows c o (rows_read (width_of good.store.sup) rest) coll name good.store finds);
         }
 
     -- another one in front: it is missing

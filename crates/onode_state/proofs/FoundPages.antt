@@ -4,12 +4,14 @@ use Rattle.std.specs.List.{flat_map, AllByRecursion}
 use Rattle.meta_rows.specs.Prelude.{Rows, rows_from_to}
 use Rattle.unit_fields.specs.Prelude.{IsName, IsCollName}
 use Rattle.unit_fields.specs.declared.width.Width.{Width}
-use Rattle.row_format.specs.Prelude.{object_key, shard_key, Extent, ExtentsAscend, own, extent_bytes, place_of, shard}
+use Rattle.row_format.specs.Prelude.{object_key, shard_key, Extent, ExtentsAscend, Place, own, slot, extent_bytes, place_of, shard}
 use Rattle.meta_log.specs.Prelude.{width_of}
-use Rattle.store_image.proofs.Prelude.{in_place}
+use Rattle.store_image.specs.Prelude.{StandsOn}
+use Rattle.store_image.proofs.Prelude.{in_place, one_place, some_unit}
+use Rattle.plan_rows.proofs.OnData.{slot_within}
 use Rattle.object_rows.specs.Shards.{AreShardsOf, extents_in}
 use Rattle.object_rows.proofs.Shards.{by_shards_ascend, by_shards_pages}
-use Rattle.page_lookup.specs.Prelude.{rows_read, place_found, HasUnit, FindPagesOf}
+use Rattle.page_lookup.specs.Prelude.{rows_read, place_found, HasNumber, FindPagesOf}
 use Rattle.object_rows.proofs.GoodPages.{good_page}
 use Rattle.page_lookup.proofs.Reading.{read_spelled}
 use Rattle.page_lookup.proofs.Finding.{found_is}
@@ -75,12 +77,19 @@ module _ (rows : Rows) (c o : List ℕ) (entries : List Entry) (coll : IsCollNam
       let by = by_shards_pages store.sup rows c o store.good has.shards are page place in
       (λ get. by.0 (sym found ∙ get), λ at. found ∙ by.1 at)
 
--- their units are those of the store
-pub units_fit : (rows : Rows) (c o : List ℕ) (es : List Extent) → IsCollName c → IsName o → (store : AreRowsOfAStore rows)
+-- their units are those of the store, and their slots those of blobs
+pub numbers_fit : (rows : Rows) (c o : List ℕ) (es : List Extent) → IsCollName c → IsName o → (store : AreRowsOfAStore rows)
     → FindPagesOf (width_of store.sup) rows c o es
-    → (page : ℕ) → HasUnit es page
-units_fit rows c o es coll name store finds page unit csum is =
+    → (page : ℕ) → HasNumber es page
+numbers_fit rows c o es coll name store finds page (own unit csum) is =
     let at = (finds page (own unit csum)).0 is in
     let has = (in_place store.sup rows (shard c o at.first at.extents) store.good at.has_shard).has_onode in
     let there = onode_there rows c o coll name store has in
     omega (arith, (good_page store.sup rows c o store.good there.0 page (own unit csum) there.1 at).on_data.1, store.limits.units_most)
+numbers_fit rows c o es coll name store finds page (slot sbid index) is =
+    let at = (finds page (slot sbid index)).0 is in
+    let on = some_unit store.sup rows store.good c o page (slot sbid index) at in
+    let same = one_place store.sup rows store.good c o page on.1.place (slot sbid index) on.1.at at in
+    let stands = subst (λ (place : Place). StandsOn (width_of store.sup) rows place on.0) same on.1.stands in
+    let has = stands.1.0 in
+    omega (arith, has.has_blob.fits.few, slot_within has.slots index stands.0 has.there)

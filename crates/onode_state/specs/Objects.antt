@@ -7,7 +7,7 @@ use Rattle.unit_fields.specs.Prelude.{Ascends}
 use Rattle.unit_fields.specs.declared.width.Width.{Width}
 use Rattle.row_format.specs.Prelude.{onode_key, shard_key, Extent}
 use Rattle.store_image.specs.Prelude.{HasKey, HasOnode}
-use Rattle.page_lookup.specs.Prelude.{HasUnit, FindPagesOf}
+use Rattle.page_lookup.specs.Prelude.{HasNumber, FindPagesOf}
 use Rattle.blob_map.specs.Prelude.{PageMap, extent_pages, with_pages}
 use Rattle.object_rows.specs.Shards.{AreShards, AreShardsOf, extents_in, first_pages}
 use Rattle.plan_rows.specs.Prelude.{Layout, HasLayout, or_empty, size_at}
@@ -24,11 +24,11 @@ abbrev pub IsSizeAt : Rows → List ℕ → List ℕ → Option ℕ → Type 0
 IsSizeAt rows c o None = finite.get rows (onode_key c o) ≡ None
 IsSizeAt rows c o (Some size) = HasOnode rows c o size
 
--- the object is there with so many bytes, and its pages, on units whose numbers have 32 bits, are found among these extents
+-- the object is there with so many bytes, and its pages, in places whose numbers fit their fields, are found among these extents
 pub record IsObjectFound (w : Width) (rows : Rows) (c o : List ℕ) (size : ℕ) (pages : List Extent) : Type 0 where
   pub has_size : HasOnode rows c o size
   pub are_pages : FindPagesOf w rows c o pages
-  pub units : (page : ℕ) → HasUnit pages page
+  pub numbers : (page : ℕ) → HasNumber pages page
 
 -- The object has so many bytes, or is missing, its pages stand where the map says, and its shards begin at these pages. A missing one has none.
 pub record IsObjectState (w : Width) (rows : Rows) (c o : List ℕ) (size : Option ℕ) (pages : PageMap) (firsts : List ℕ) : Type 0 where

@@ -6,10 +6,10 @@ use Rattle.std.proofs.lemmas.Bool.{cases_Bool, and_parts, or_from, or_right, or_
 use Rattle.byte_maps.specs.Units.{zeros}
 use Rattle.crc32c_csum.specs.Prelude.{crc32c}
 use Rattle.row_format.specs.Prelude.{Place}
-use Rattle.store_image.specs.Prelude.{page_bytes}
+use Rattle.store_image.specs.Prelude.{PageUnit, page_bytes}
 use Rattle.plan_drafts.specs.declared.draft.Draft.{Draft}
 use Rattle.plan_rows.specs.declared.plan.ReadUnit.{ReadUnit}
-use Rattle.plan_drafts.specs.Edits.{Edit, end_of, covers_whole, is_there, is_cleared, is_touched, pages_put, places_read, page_unit, page_after, old_page, taking_of, drafted, Held, writes_of, with_writes, HoldBytes}
+use Rattle.plan_drafts.specs.Edits.{Edit, end_of, covers_whole, is_there, is_cleared, is_touched, pages_put, places_read, page_after, old_page, taking_of, drafted, Held, writes_of, with_writes, HoldBytes}
 use Rattle.page_edits.specs.Takings.{IsNumbered, PutsWholePages, WereRead}
 use Rattle.page_edits.proofs.Lists.{In}
 use Rattle.page_edits.proofs.PageRanges.{IsApart, touched_or_apart, covered}
@@ -19,15 +19,15 @@ use Rattle.page_edits.proofs.PageBytes.{page_length, after_length, after_apart, 
 use Rattle.page_edits.proofs.WrittenPages.{unwritten, written_at, all_written, some_written}
 use Rattle.page_edits.proofs.OldPages.{old_length, bytes_are_new}
 
-module _ (e : Edit) (read : List ReadUnit) (held : Held) (n : ℕ) (d : Draft) where
+module _ (on : Place → PageUnit) (e : Edit) (read : List ReadUnit) (held : Held) (n : ℕ) (d : Draft) where
   abbrev taking_then : ℕ → ℕ
   taking_then = taking_of (drafted e n d)
 
   abbrev bytes_then : ℕ → List ℕ
-  bytes_then page = page_after e.off e.piece page (old_page read held d page)
+  bytes_then page = page_after e.off e.piece page (old_page on read held d page)
 
   abbrev held_then : Held
-  held_then = with_writes (writes_of e read held n d) held
+  held_then = with_writes (writes_of on e read held n d) held
 
   -- the taking of a page that gets new bytes
   pub taking_is : (page : ℕ) → In (pages_put e d) page → finite.get (drafted e n d).puts page ≡ Some (taking_of (drafted e n d) page)
@@ -54,7 +54,7 @@ module _ (e : Edit) (read : List ReadUnit) (held : Held) (n : ℕ) (d : Draft) w
   ]
     where
       each : (q : ℕ) → length (bytes_then q) ≡ 4096
-      each q = after_length e.off e.piece q (old_page read held d q) (old_length read reads held d q whole)
+      each q = after_length e.off e.piece q (old_page on read held d q) (old_length on read reads held d q whole)
 
   pub others_then : (taking : ℕ) → taking < n → ((page : ℕ) → ¬ (finite.get d.puts page ≡ Some taking)) → held_then taking ≡ held taking
   others_then taking less none = unwritten taking_then bytes_then (pages_put e d) held taking
@@ -68,7 +68,7 @@ module _ (e : Edit) (read : List ReadUnit) (held : Held) (n : ℕ) (d : Draft) w
     pub only : (page other : ℕ) → In (pages_put e d) page → In (pages_put e d) other → taking_then other ≡ taking_then page → other ≡ page
     only page other put has same = (numbered e d n num).alone other page (taking_then page) (taking_is other has ∙ ap Some same) (taking_is page put)
 
-    module _ (at : ℕ → List ℕ) (old new : List ℕ) (hold : HoldBytes at held d old) (reads : WereRead at (places_read e d) read)
+    module _ (at : ℕ → List ℕ) (old new : List ℕ) (hold : HoldBytes on at held d old) (reads : WereRead at (places_read on e d) read)
         (after : (page : ℕ) → page_bytes new page ≡ page_after e.off e.piece page (page_bytes old page))
         (clear : e.clears ≡ true → (i : ℕ) → get_or e.piece i 0 ≡ 0) where
       same_apart : (page : ℕ) → IsApart e.off (end_of e) page → page_bytes new page ≡ page_bytes old page
@@ -81,7 +81,7 @@ module _ (e : Edit) (read : List ReadUnit) (held : Held) (n : ℕ) (d : Draft) w
       ]
 
       kept_hold : (page : ℕ) (place : Place) → finite.get (drafted e n d).kept page ≡ Some place → finite.get (drafted e n d).puts page ≡ None
-          → (at (page_unit place).unit ≡ page_bytes new page) × (crc32c (page_bytes new page) ≡ (page_unit place).csum)
+          → (at (on place).unit ≡ page_bytes new page) × (crc32c (page_bytes new page) ≡ (on place).csum)
       kept_hold page place stands none =
           let untouched = kept_apart e d n page place stands in
           let bare : finite.get d.puts page ≡ None = sym (puts_same e d n page
@@ -97,7 +97,7 @@ module _ (e : Edit) (read : List ReadUnit) (held : Held) (n : ℕ) (d : Draft) w
         | inl put ↦
             ap held_then (sym (taking_from page taking is))
             ∙ written_at taking_then bytes_then (pages_put e d) held page (put_ascends e d) put (λ other has same. only page other put has same)
-            ∙ bytes_are_new at e read held d old hold reads page (put_touched e d page put)
+            ∙ bytes_are_new on at e read held d old hold reads page (put_touched e d page put)
             ∙ sym (after page)
         | inr none ↦
             let before = put_before page taking none is in
@@ -135,5 +135,5 @@ module _ (e : Edit) (read : List ReadUnit) (held : Held) (n : ℕ) (d : Draft) w
         ]
       ]
 
-      pub bytes_hold : HoldBytes at held_then (drafted e n d) new
+      pub bytes_hold : HoldBytes on at held_then (drafted e n d) new
       bytes_hold = record { kept = kept_hold; put = put_hold; holes = holes_hold }

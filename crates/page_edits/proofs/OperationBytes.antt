@@ -5,7 +5,8 @@ use Rattle.byte_maps.proofs.Prelude.{length-zeros}
 use Rattle.object_model.specs.declared.op.Op.{Op}
 use Rattle.object_model.specs.declared.op.Op.TheVariants.{Write, Zero, Truncate}
 use Rattle.object_model.specs.Prelude.{object_limit, overwritten}
-use Rattle.store_image.specs.Prelude.{page_bytes}
+use Rattle.row_format.specs.Prelude.{Place}
+use Rattle.store_image.specs.Prelude.{PageUnit, page_bytes}
 use Rattle.plan_drafts.specs.declared.draft.Draft.{Draft}
 use Rattle.plan_rows.specs.declared.plan.ReadUnit.{ReadUnit}
 use Rattle.plan_drafts.specs.Edits.{grown, edit_of, places_read, page_after, drafted, Held, writes_of, with_writes, HoldBytes, bytes_after, IsInLimits}
@@ -54,12 +55,12 @@ length_after op old within short = refl
 
 -- ---- the pages hold them
 
-pub operation_holds : (at : ℕ → List ℕ) (held : Held) (op : Op) (old : List ℕ) (read : List ReadUnit) (n : ℕ) (d : Draft)
-    → IsInLimits op → length old ≤ object_limit → d.size ≡ length old → HoldBytes at held d old → IsNumbered n d
-    → WereRead at (places_read (edit_of op d.size) d) read
-    → HoldBytes at (with_writes (writes_of (edit_of op d.size) read held n d) held) (drafted (edit_of op d.size) n d) (bytes_after op old)
-operation_holds at held op old read n d within short size hold num reads =
-    bytes_hold (edit_of op d.size) read held n d num at old (bytes_after op old) hold reads
+pub operation_holds : (on : Place → PageUnit) (at : ℕ → List ℕ) (held : Held) (op : Op) (old : List ℕ) (read : List ReadUnit) (n : ℕ) (d : Draft)
+    → IsInLimits op → length old ≤ object_limit → d.size ≡ length old → HoldBytes on at held d old → IsNumbered n d
+    → WereRead at (places_read on (edit_of op d.size) d) read
+    → HoldBytes on at (with_writes (writes_of on (edit_of op d.size) read held n d) held) (drafted (edit_of op d.size) n d) (bytes_after op old)
+operation_holds on at held op old read n d within short size hold num reads =
+    bytes_hold on (edit_of op d.size) read held n d num at old (bytes_after op old) hold reads
     (λ page. subst (λ s. page_bytes (bytes_after op old) page ≡ page_after (edit_of op s).off (edit_of op s).piece page (page_bytes old page)) (sym size)
     (page_edited op old within short page))
     (clears_by_zeros op d.size)

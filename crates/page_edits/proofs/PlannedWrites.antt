@@ -41,7 +41,7 @@ insert_same m key v is = same (finite.insert m key v) m (λ q. elim (cases_eq q 
 ])
 
 -- old bytes that were put are those of the page's own unit
-read_not_put : (place : Option PageUnit) (taking : ℕ) → option_map_or (λ on. Read on.unit) place Zeros ≡ Put taking → ⊥
+read_not_put : (place : Option PageUnit) (taking : ℕ) → option_map_or (λ x. Read x.unit) place Zeros ≡ Put taking → ⊥
 read_not_put None taking is = absurd cc
 read_not_put (Some on) taking is = absurd cc
 
@@ -52,7 +52,7 @@ own_put Stays n place taking is = absurd (read_not_put place taking is)
 own_put Hole n place taking is = absurd (read_not_put place taking is)
 own_put (Takes old) n place taking is = absurd (read_not_put place taking is)
 
-module _ (at : ℕ) (s : Span) (d : Draft) where
+module _ (on : Place → PageUnit) (at : ℕ) (s : Span) (d : Draft) where
   abbrev takes : ℕ → Bool
   takes page = takes_unit (fate_on s d page)
 
@@ -76,17 +76,17 @@ module _ (at : ℕ) (s : Span) (d : Draft) where
 
   -- the writes put the pages that take units, and leave the others as they were put
   pub puts_are : (pages : List ℕ) (n : ℕ) (m : NumberMap ℕ) → Ascends pages → Agrees m pages → Get pages
-      → with_puts m (planned at s d n pages) ≡ with_takings n (filter takes pages) m
+      → with_puts m (planned on at s d n pages) ≡ with_takings n (filter takes pages) m
   puts_are [] n m ascend agree get = refl
   puts_are (p ∷ ps) n m ascend agree get = elim (gets_as p ps get) [
-    | again t put is ↦ subst Next (sym is) (ap (λ k. with_puts k (planned at s d n ps)) (insert_same m p t (agree p (inl refl) ∙ put))
+    | again t put is ↦ subst Next (sym is) (ap (λ k. with_puts k (planned on at s d n ps)) (insert_same m p t (agree p (inl refl) ∙ put))
         ∙ puts_are ps n m ascend.1 (λ q has. agree q (inr has)) (λ q has. get q (inr has)))
     | first none is ↦ subst Next (sym is)
         (puts_are ps (n + 1) (finite.insert m p n) ascend.1 (still_agrees m p n ps ascend agree) (λ q has. get q (inr has)))
   ]
     where
       Next : Fate → Type 0
-      Next f = with_puts (finite.insert m p (taking_by f n)) (planned at s d (cond (takes_unit f) (n + 1) n) ps)
+      Next f = with_puts (finite.insert m p (taking_by f n)) (planned on at s d (cond (takes_unit f) (n + 1) n) ps)
           ≡ with_takings n (cond (takes_unit f) (p ∷ filter takes ps) (filter takes ps)) m
 
   not_taking : (p : ℕ) (ps : List ℕ) → Ascends (p ∷ ps) → In (filter takes ps) p → ⊥
@@ -100,38 +100,38 @@ module _ (at : ℕ) (s : Span) (d : Draft) where
 
   module _ (op : Op) (read : List ReadUnit) (held : Held) (whole : PutsWholePages held d) (piece : List ℕ) (reach : s.end ≡ s.off + length piece) where
     abbrev new_bytes : ℕ → List ℕ
-    new_bytes page = page_after s.off piece page (old_page read held d page)
+    new_bytes page = page_after s.off piece page (old_page on read held d page)
 
     abbrev old_by : Fate → Option Place → List ℕ
-    old_by f kept = old_bytes read (held_old held (old_where f (place_read f kept))) (old_where f (place_read f kept))
+    old_by f kept = old_bytes read (held_old held (old_where f (place_read on f kept))) (old_where f (place_read on f kept))
 
-    seen : (kept : Option Place) → old_by (Takes (is_some kept && true)) kept ≡ option_map_or (old_bytes_in read) kept (zeros 4096)
+    seen : (kept : Option Place) → old_by (Takes (is_some kept && true)) kept ≡ option_map_or (old_bytes_in on read) kept (zeros 4096)
     seen None = refl
     seen (Some place) = refl
 
     -- what the page's fate says of old bytes is what the page has, where it gets only some
-    part_is : (page : ℕ) (f : Fate) → covers_whole s.off s.end page ≡ false → GetsAs page f → old_by f (finite.get d.kept page) ≡ old_page read held d page
+    part_is : (page : ℕ) (f : Fate) → covers_whole s.off s.end page ≡ false → GetsAs page f → old_by f (finite.get d.kept page) ≡ old_page on read held d page
     part_is page f part (again t put is) =
         ap (λ g. old_by g (finite.get d.kept page)) (is ∙ ap (λ b. Changed t (not b)) part)
         ∙ ap (λ b. cond b (held t) (zeros 4096)) (eq-eqb (length (held t)) 4096 (whole page t put))
-        ∙ sym (ap (λ x. option_map_or held x (option_map_or (old_bytes_in read) (finite.get d.kept page) (zeros 4096))) put)
+        ∙ sym (ap (λ x. option_map_or held x (option_map_or (old_bytes_in on read) (finite.get d.kept page) (zeros 4096))) put)
     part_is page f part (first none is) =
         ap (λ g. old_by g (finite.get d.kept page)) (is ∙ ap (λ b. Takes (is_some (finite.get d.kept page) && not b)) part)
         ∙ seen (finite.get d.kept page)
-        ∙ sym (ap (λ x. option_map_or held x (option_map_or (old_bytes_in read) (finite.get d.kept page) (zeros 4096))) none)
+        ∙ sym (ap (λ x. option_map_or held x (option_map_or (old_bytes_in on read) (finite.get d.kept page) (zeros 4096))) none)
 
     old_is : (page : ℕ) (f : Fate) → GetsAs page f → page_after s.off piece page (old_by f (finite.get d.kept page)) ≡ new_bytes page
     old_is page f how = elim (cases_Bool (covers_whole s.off s.end page)) [
       | inl covers ↦
           let c = covered s.off s.end page covers in
-          after_any s.off piece page (old_by f (finite.get d.kept page)) (old_page read held d page) c.0 (omega (arith, c.1, reach))
+          after_any s.off piece page (old_by f (finite.get d.kept page)) (old_page on read held d page) c.0 (omega (arith, c.1, reach))
       | inr part ↦ ap (page_after s.off piece page) (part_is page f part how)
     ]
 
     -- and make of them what the edit makes
     pub made_are : (pages : List ℕ) (n : ℕ) (m : NumberMap ℕ) → Ascends pages → Agrees m pages → Get pages
         → ((page : ℕ) → In pages page → ((widest op).off ≡ s.off) × ((widest op).piece ≡ piece))
-        → map (made_by op read held) (planned at s d n pages)
+        → map (made_by op read held) (planned on at s d n pages)
         ≡ map (λ page. (unwrap_or (finite.get (with_takings n (filter takes pages) m) page) 0, new_bytes page)) pages
     made_are [] n m ascend agree get lays = refl
     made_are (p ∷ ps) n m ascend agree get lays =
@@ -153,7 +153,7 @@ module _ (at : ℕ) (s : Span) (d : Draft) where
         then_puts f = with_takings n (cond (takes_unit f) (p ∷ filter takes ps) (filter takes ps)) m
 
         Rest : Fate → Type 0
-        Rest f = map (made_by op read held) (planned at s d (cond (takes_unit f) (n + 1) n) ps)
+        Rest f = map (made_by op read held) (planned on at s d (cond (takes_unit f) (n + 1) n) ps)
             ≡ map (λ page. (unwrap_or (finite.get (then_puts f) page) 0, new_bytes page)) ps
 
         taking_is : (f : Fate) → GetsAs p f → taking_by f n ≡ unwrap_or (finite.get (then_puts f) p) 0
@@ -165,10 +165,10 @@ module _ (at : ℕ) (s : Span) (d : Draft) where
         two : (t u : ℕ) (b : List ℕ) {xs ys : List (ℕ × List ℕ)} → t ≡ u → b ≡ new_bytes p → xs ≡ ys → (t, b) ∷ xs ≡ (u, new_bytes p) ∷ ys
         two t u b {xs} {ys} is are rest = ap (λ v. (v, b) ∷ xs) is ∙ ap (λ v. (u, v) ∷ xs) are ∙ ap (λ l. (u, new_bytes p) ∷ l) rest
 
-  pub all_of_operation : (pages : List ℕ) (n : ℕ) → AllByRecursion (IsWriteBy at) (planned at s d n pages)
+  pub all_of_operation : (pages : List ℕ) (n : ℕ) → AllByRecursion (IsWriteBy at) (planned on at s d n pages)
   all_of_operation [] n = tt
   all_of_operation (p ∷ ps) n = (
-    record { of = refl; own = own_put (fate_on s d p) n (place_read (fate_on s d p) (finite.get d.kept p)) },
+    record { of = refl; own = own_put (fate_on s d p) n (place_read on (fate_on s d p) (finite.get d.kept p)) },
     all_of_operation ps (cond (takes_unit (fate_on s d p)) (n + 1) n),
   )
 
@@ -179,18 +179,18 @@ module _ (at : ℕ) (s : Span) (d : Draft) where
     Reaches page = ((widest (op_at ops at)).off < 4096 * page + 4096) × (4096 * page < end_of (widest (op_at ops at)))
 
     can : (page n : ℕ) (f : Fate) → Reaches page → taking_by f n < more
-        → CanBeMade ops more (record { op = at; page = page; taking = taking_by f n; old = old_where f (place_read f (finite.get d.kept page)) })
+        → CanBeMade ops more (record { op = at; page = page; taking = taking_by f n; old = old_where f (place_read on f (finite.get d.kept page)) })
     can page n f reach few = record {
       there = there;
       within = within;
       from = reach.0;
       to = reach.1;
       taken = few;
-      old = λ taking is. subst (λ t. t < more) (sym (own_put f n (place_read f (finite.get d.kept page)) taking is)) few;
+      old = λ taking is. subst (λ t. t < more) (sym (own_put f n (place_read on f (finite.get d.kept page)) taking is)) few;
     }
 
     pub all_can : (pages : List ℕ) (n : ℕ) → n + length (filter takes pages) ≤ more → Get pages → ((page : ℕ) → In pages page → Reaches page)
-        → AllByRecursion (CanBeMade ops more) (planned at s d n pages)
+        → AllByRecursion (CanBeMade ops more) (planned on at s d n pages)
     all_can [] n few get reaches = tt
     all_can (p ∷ ps) n few get reaches = elim (gets_as p ps get) [
       | again t put is ↦ subst Can (sym is) (λ some. (
@@ -205,8 +205,8 @@ module _ (at : ℕ) (s : Span) (d : Draft) where
       where
         Can : Fate → Type 0
         Can f = n + length (cond (takes_unit f) (p ∷ filter takes ps) (filter takes ps)) ≤ more
-            → CanBeMade ops more (record { op = at; page = p; taking = taking_by f n; old = old_where f (place_read f (finite.get d.kept p)) })
-            × AllByRecursion (CanBeMade ops more) (planned at s d (cond (takes_unit f) (n + 1) n) ps)
+            → CanBeMade ops more (record { op = at; page = p; taking = taking_by f n; old = old_where f (place_read on f (finite.get d.kept p)) })
+            × AllByRecursion (CanBeMade ops more) (planned on at s d (cond (takes_unit f) (n + 1) n) ps)
 
 -- ---- of an operation
 
@@ -230,29 +230,29 @@ lays_same (Truncate o to) size d page is = (
     some = (put_touched (edit_of (Truncate o to) size) d page is).some
 lays_same op size d page is = (refl, refl)
 
-module _ (at : ℕ) (op : Op) (n : ℕ) (d : Draft) where
+module _ (on : Place → PageUnit) (at : ℕ) (op : Op) (n : ℕ) (d : Draft) where
   abbrev e : Edit
   e = edit_of op d.size
 
   abbrev pub plans : List PageWrite
-  plans = planned at (span_by e) d n (pages_put e d)
+  plans = planned on at (span_by e) d n (pages_put e d)
 
   agrees : (q : ℕ) → In (pages_put e d) q → finite.get (uncleared e d) q ≡ finite.get d.puts q
   agrees q is = uncleared_same e d q (put_stays e d q is)
 
   pub planned_puts : with_puts (uncleared e d) plans ≡ (drafted e n d).puts
-  planned_puts = puts_are at (span_by e) d (pages_put e d) n (uncleared e d) (put_ascends e d) agrees (put_test e d) ∙ sym (puts_then e d n)
+  planned_puts = puts_are on at (span_by e) d (pages_put e d) n (uncleared e d) (put_ascends e d) agrees (put_test e d) ∙ sym (puts_then e d n)
 
-  pub planned_writes : (read : List ReadUnit) (held : Held) → PutsWholePages held d → map (made_by op read held) plans ≡ writes_of e read held n d
+  pub planned_writes : (read : List ReadUnit) (held : Held) → PutsWholePages held d → map (made_by op read held) plans ≡ writes_of on e read held n d
   planned_writes read held whole =
-      made_are at (span_by e) d op read held whole e.piece refl (pages_put e d) n (uncleared e d) (put_ascends e d) agrees (put_test e d)
+      made_are on at (span_by e) d op read held whole e.piece refl (pages_put e d) n (uncleared e d) (put_ascends e d) agrees (put_test e d)
       (lays_same op d.size d)
-      ∙ ap (λ (m : NumberMap ℕ). map (λ page. (unwrap_or (finite.get m page) 0, page_after e.off e.piece page (old_page read held d page))) (pages_put e d))
+      ∙ ap (λ (m : NumberMap ℕ). map (λ page. (unwrap_or (finite.get m page) 0, page_after e.off e.piece page (old_page on read held d page))) (pages_put e d))
       (sym (puts_then e d n))
 
   pub planned_can : (ops : List Op) → at < length ops → op_at ops at ≡ op → IsInLimits op → IsNumbered n d
       → AllByRecursion (CanBeMade ops (n + length (pages_taking e d))) plans
-  planned_can ops there is within num = all_can at (span_by e) d ops (n + length (pages_taking e d)) there (subst IsInLimits (sym is) within)
+  planned_can ops there is within num = all_can on at (span_by e) d ops (n + length (pages_taking e d)) there (subst IsInLimits (sym is) within)
       (λ page taking put. omega (arith, num.below page taking put))
       (pages_put e d) n (omega arith) (put_test e d)
       (λ page put. subst (λ (o : Op). ((widest o).off < 4096 * page + 4096) × (4096 * page < end_of (widest o))) (sym is) (reaches page put))

@@ -7,6 +7,8 @@ use Rattle.std.proofs.lemmas.Bool.{cases_eq, eq-eqb, ne_eqb}
 use Rattle.std.proofs.lemmas.List.{drop_more, get_or-set_same, get_or-set_other}
 use Rattle.unit_fields.specs.Prelude.{Ascends}
 use Rattle.object_model.specs.declared.op.Op.{Op}
+use Rattle.row_format.specs.Prelude.{Place}
+use Rattle.store_image.specs.Prelude.{PageUnit}
 use Rattle.plan_drafts.specs.declared.draft.Draft.{Draft}
 use Rattle.plan_rows.specs.declared.plan.ReadUnit.{ReadUnit}
 use Rattle.plan_drafts.specs.Edits.{Edit, edit_of, pages_put, taking_of, drafted, Held, page_written, writes_of, with_writes}
@@ -79,17 +81,17 @@ module _ (ops : List Op) (at : ℕ) (op : Op) (read : List ReadUnit) (start : He
       (λ e. differ.0 (subst (In (map (λ (x : PageWrite). x.taking) ws)) e (of_map (λ (x : PageWrite). x.taking) ws v is))))
       ∙ same v (inr is))
 
-pub operation_made : (ops : List Op) (at : ℕ) (op : Op) (read : List ReadUnit) (held : Held) (n : ℕ) (d : Draft) (writes : List PageWrite)
+pub operation_made : (on : Place → PageUnit) (ops : List Op) (at : ℕ) (op : Op) (read : List ReadUnit) (held : Held) (n : ℕ) (d : Draft) (writes : List PageWrite)
     → op_at ops at ≡ op → AllByRecursion (IsWriteBy at) writes → IsNumbered n d
-    → map (made_by op read held) writes ≡ writes_of (edit_of op d.size) read held n d
-    → after_writes ops read writes held ≡ with_writes (writes_of (edit_of op d.size) read held n d) held
-operation_made ops at op read held n d writes op_is of num are =
+    → map (made_by op read held) writes ≡ writes_of on (edit_of op d.size) read held n d
+    → after_writes ops read writes held ≡ with_writes (writes_of on (edit_of op d.size) read held n d) held
+operation_made on ops at op read held n d writes op_is of num are =
     let e : Edit = edit_of op d.size in
     let takings : map (λ (w : PageWrite). w.taking) writes ≡ map (taking_of (drafted (edit_of op d.size) n d)) (pages_put (edit_of op d.size) d) =
     sym (firsts (made_by op read held) writes) ∙ ap (map (λ (p : ℕ × List ℕ). p.0)) are
-    ∙ firsts (page_written (edit_of op d.size) read held d (drafted (edit_of op d.size) n d)) (pages_put (edit_of op d.size) d) in
+    ∙ firsts (page_written on (edit_of op d.size) read held d (drafted (edit_of op d.size) n d)) (pages_put (edit_of op d.size) d) in
     all_made ops at op read held op_is writes held of
-    (subst Differ (sym takings) (differ_map (taking_of (drafted e n d)) (pages_put e d) (put_ascends e d) (only e read held n d num)))
+    (subst Differ (sym takings) (differ_map (taking_of (drafted e n d)) (pages_put e d) (put_ascends e d) (only on e read held n d num)))
     (λ w is. refl)
     ∙ ap (λ l. with_writes l held) are
 

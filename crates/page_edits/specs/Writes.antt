@@ -7,6 +7,7 @@ use Rattle.number_map.specs.NumberMap.{NumberMap}
 use Rattle.object_model.specs.declared.op.Op.{Op}
 use Rattle.object_model.specs.declared.op.Op.TheVariants.{MkColl}
 use Rattle.object_model.specs.Prelude.{object_limit}
+use Rattle.row_format.specs.Prelude.{Place}
 use Rattle.store_image.specs.Prelude.{PageUnit}
 use Rattle.plan_drafts.specs.declared.draft.Draft.{Draft}
 use Rattle.plan_rows.specs.declared.plan.ReadUnit.{ReadUnit}
@@ -32,14 +33,14 @@ taking_by (Changed taking old) next = taking
 taking_by fate next = next
 
 -- Writes of these pages by the operation of this place, where so many units had been taken before: a page that wasn't put takes the next one.
-abbrev pub planned : ℕ → Span → Draft → ℕ → List ℕ → List PageWrite
-planned at s d n [] = []
-planned at s d n (page ∷ pages) = record {
+abbrev pub planned : (Place → PageUnit) → ℕ → Span → Draft → ℕ → List ℕ → List PageWrite
+planned on at s d n [] = []
+planned on at s d n (page ∷ pages) = record {
   op = at;
   page = page;
   taking = taking_by (fate_on s d page) n;
-  old = old_where (fate_on s d page) (place_read (fate_on s d page) (finite.get d.kept page));
-} ∷ planned at s d (if takes_unit (fate_on s d page) then n + 1 else n) pages
+  old = old_where (fate_on s d page) (place_read on (fate_on s d page) (finite.get d.kept page));
+} ∷ planned on at s d (if takes_unit (fate_on s d page) then n + 1 else n) pages
 
 -- pages that were put, after writes
 abbrev pub with_puts : NumberMap ℕ → List PageWrite → NumberMap ℕ

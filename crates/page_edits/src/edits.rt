@@ -7,6 +7,7 @@ ghost use Rattle.std.specs.FinMap as finite;
 ghost use Rattle.std.specs.FinMap.Entries.{where_key};
 ghost use Rattle.object_model.specs.declared.op.Op.{Op};
 ghost use Rattle.object_model.specs.Prelude.{object_limit};
+ghost use Rattle.plan_rows.specs.Stores.{AreRowsOfWidth};
 ghost use Rattle.plan_rows.specs.declared.plan.ReadUnit.{ReadUnit};
 ghost use Rattle.plan_drafts.specs.Edits.{Held, page_unit, has_bytes_of, covers_whole, edit_of, is_touched, takes_unit, pages_taking, place_read, places_read, drafted, writes_of, IsInLimits};
 ghost use Rattle.page_edits.specs.Ranges.{IsOnBytes, fate_on};
@@ -19,11 +20,14 @@ use crate::spans::{Span, span_of};
 use crate::writes::{OldBytes, PageWrite};
 use blob_map::{PageMap, Place};
 use byte_maps::Items;
+use meta_rows::RowTable;
 use number_map::NumberMap;
 use object_model::Op;
+use place_units::page_unit;
 use plan_drafts::{Draft, Fate};
 use plan_rows::PageUnit;
 use std::alloc::{AllocError, Global};
+use unit_fields::Width;
 
 /// What an edit writes, reads and leaves.
 #[derive(Drop)]
@@ -46,25 +50,22 @@ struct Planned {
     taken: u32,
 }
 
-// The unit on which a page at this place stands, and the checksum that is kept for it.
-fn page_unit(place: Place) -> PageUnit
-    ensures { result ≡ page_unit place }
-{
-    PageUnit {
-        unit: place.unit,
-        csum: place.csum,
-    }
-}
-
 // Where a page is read, if some of its old bytes stay.
-fn place_read(draft: &Draft, fate: Fate, page: u32) -> Option<PageUnit>
-    ensures { result ≡ place_read fate (finite.get draft.now.kept page) }
+fn place_read(
+    width: Width,
+    rows: &RowTable,
+    draft: &Draft,
+    fate: Fate,
+    page: u32,
+) -> Option<PageUnit>
+    requires { AreRowsOfWidth width rows.now.rows }
+    ensures { result ≡ place_read (page_unit width rows.now.rows) fate (finite.get draft.now.kept page) }
 {
     if !needs_old(fate) {
         return None;
     }
     match draft.kept.find(page) {
-        Some(place) => Some(page_unit(place)),
+        Some(place) => Some(page_unit(width, rows, &place)),
         None => None,
     }
 }
@@ -99,16 +100,20 @@ fn taking_by(fate: Fate, next: u32) -> u32
 // The writes of these pages by the operation at this place, where so many units had been taken before.
 fn plan_pages(
     alloc: Global,
+    width: Width,
+    rows: &RowTable,
     at: u32,
     draft: &Draft,
     span: &Span,
     pages: &[u32],
     taken: u32,
 ) -> Result<Planned, AllocError>
-    requires { taken + length pages.now < 2 ^ 32 }
-    ensures writes { IfOk result (λ p. p.writes ≡ planned at span.now draft.now taken pages.now) }
+    requires good { AreRowsOfWidth width rows.now.rows }
+    requires few { taken + length pages.now < 2 ^ 32 }
+    ensures writes { IfOk result (λ p. p.writes ≡ planned (page_unit width rows.now.rows) at span.now draft.now taken pages.now) }
     ensures places { IfOk result (λ p. p.places
-        ≡ flat_map (λ page. option_to_list (place_read (fate_on span.now draft.now page) (finite.get draft.now.kept page))) pages.now) }
+        ≡ flat_map (λ page. option_to_list (place_read (page_unit width rows.now.rows) (fate_on span.now draft.now page)
+        (finite.get draft.now.kept page))) pages.now) }
     ensures taken { IfOk result (λ p. p.taken ≡ taken + length (filter (λ page. takes_unit (fate_on span.now draft.now page)) pages.now)) }
 {
     let mut planned = Planned {
@@ -118,7 +123,7 @@ fn plan_pages(
     };
     for page in pages {
         let fate = fate_of(draft, span, *page);
-        let place = place_read(draft, fate, *page);
+        let place = place_read(width, rows, draft, fate, *page);
         planned.writes.push(PageWrite {
             op: at,
             page: *page,
@@ -198,30 +203,43 @@ fn put_pages(puts: &mut NumberMap<u32>, writes: &[PageWrite]) -> Result<(), Allo
 /// bytes and wasn't put before takes the next one. It goes over the pages that get new bytes and over those that stand on units, never over
 /// holes. Where memory runs out, some of the draft may have changed.
 ///
-/// `at` is the operation's place in its transaction.
+/// `at` is the operation's place in its transaction. The rows say on which units old bytes are that it needs.
 pub fn edit(
     alloc: Global,
+    width: Width,
+    rows: &RowTable,
     op: &Op,
     at: u32,
     draft: &mut Draft,
     taken: u32,
 ) -> Result<Edited, AllocError>
+    requires rows { AreRowsOfWidth width rows.now.rows }
     requires on_bytes { IsOnBytes op.now }
     requires within { IsInLimits op.now }
     requires few { taken ≤ 2 ^ 24 }
     ensures draft { OnOk result (draft.new ≡ drafted (edit_of op.now draft.old.size) taken draft.old) }
     ensures taken { IfOk result (λ e. e.taken ≡ taken + length (pages_taking (edit_of op.now draft.old.size) draft.old)) }
-    ensures places { IfOk result (λ e. e.places ≡ places_read (edit_of op.now draft.old.size) draft.old) }
+    ensures places { IfOk result (λ e. e.places ≡ places_read (page_unit width rows.now.rows) (edit_of op.now draft.old.size) draft.old) }
     ensures left { IfOk result (λ e. e.left ≡ where_key nat_cmp (is_touched (edit_of op.now draft.old.size)) (finite.entries draft.old.kept)) }
     ensures writes { IfOk result (λ e. (read : List ReadUnit) (held : Held) → PutsWholePages held draft.old
-        → map (made_by op.now read held) e.writes ≡ writes_of (edit_of op.now draft.old.size) read held taken draft.old) }
+        → map (made_by op.now read held) e.writes
+        ≡ writes_of (page_unit width rows.now.rows) (edit_of op.now draft.old.size) read held taken draft.old) }
     ensures of { IfOk result (λ e. AllByRecursion (IsWriteBy at) e.writes) }
     ensures can { IfOk result (λ e. (ops : List Op) → at < length ops → op_at ops at ≡ op.now → IsNumbered taken draft.old
         → AllByRecursion (CanBeMade ops e.taken) e.writes) }
 {
     let span = span_of(op, draft.size);
     let pages = pages_put(alloc, draft, &span)?;
-    let planned = plan_pages(alloc, at, draft, &span, pages.as_slice(), taken)?;
+    let planned = plan_pages(
+        alloc,
+        width,
+        rows,
+        at,
+        draft,
+        &span,
+        pages.as_slice(),
+        taken,
+    )?;
     let left = leave(alloc, &mut draft.kept, span.off, span.end)?;
     clear(alloc, &mut draft.puts, &span)?;
     put_pages(&mut draft.puts, planned.writes.as_slice())?;

@@ -7,7 +7,7 @@ ghost use Rattle.std.specs.FinMap.Entries.{where_key};
 ghost use Rattle.object_model.specs.declared.op.Op.{Op};
 ghost use Rattle.object_model.specs.Prelude.{object_limit, payload_of, payload_limit};
 ghost use Rattle.row_format.specs.Prelude.{Place};
-ghost use Rattle.store_image.specs.Prelude.{pages_of};
+ghost use Rattle.store_image.specs.Prelude.{PageUnit, pages_of};
 ghost use Rattle.plan_drafts.specs.declared.draft.Draft.{Draft};
 ghost use Rattle.plan_rows.specs.declared.plan.ReadUnit.{ReadUnit};
 ghost use Rattle.plan_drafts.specs.Edits.{Edit, edit_of, is_touched, pages_taking, places_read, drafted, Held, writes_of, with_writes, EndsBelow, HoldBytes, bytes_after, IsInLimits};
@@ -44,27 +44,29 @@ pub fn an_edit_moves_pages()
 {}
 
 /// The object has the size that the edit says, and its pages hold its new bytes where they held the old ones and those were read that it
-/// needs. What is put is whole pages, and the units of other takings are to hold what they were to hold.
+/// needs, whatever units places are on. What is put is whole pages, and the units of other takings are to hold what they were to hold.
 pub fn an_edit_makes_bytes()
     ensures long { (op : Op) (old : List ℕ) → IsInLimits op → length old ≤ object_limit
         → length (bytes_after op old) ≡ (edit_of op (length old)).size }
-    ensures bytes { (at : ℕ → List ℕ) (held : Held) (op : Op) (old : List ℕ) (read : List ReadUnit) (n : ℕ) (d : Draft)
-        → IsInLimits op → length old ≤ object_limit → d.size ≡ length old → HoldBytes at held d old → IsNumbered n d
-        → WereRead at (places_read (edit_of op d.size) d) read
-        → HoldBytes at (with_writes (writes_of (edit_of op d.size) read held n d) held) (drafted (edit_of op d.size) n d) (bytes_after op old) }
-    ensures whole { (e : Edit) (read : List ReadUnit) (held : Held) (n : ℕ) (d : Draft) → AllByRecursion (λ r. length r.bytes ≡ 4096) read
-        → PutsWholePages held d → PutsWholePages (with_writes (writes_of e read held n d) held) (drafted e n d) }
-    ensures others { (e : Edit) (read : List ReadUnit) (held : Held) (n : ℕ) (d : Draft) (taking : ℕ) → taking < n
-        → ((page : ℕ) → ¬ (finite.get d.puts page ≡ Some taking)) → with_writes (writes_of e read held n d) held taking ≡ held taking }
+    ensures bytes { (on : Place → PageUnit) (at : ℕ → List ℕ) (held : Held) (op : Op) (old : List ℕ) (read : List ReadUnit) (n : ℕ) (d : Draft)
+        → IsInLimits op → length old ≤ object_limit → d.size ≡ length old → HoldBytes on at held d old → IsNumbered n d
+        → WereRead at (places_read on (edit_of op d.size) d) read
+        → HoldBytes on at (with_writes (writes_of on (edit_of op d.size) read held n d) held) (drafted (edit_of op d.size) n d)
+        (bytes_after op old) }
+    ensures whole { (on : Place → PageUnit) (e : Edit) (read : List ReadUnit) (held : Held) (n : ℕ) (d : Draft)
+        → AllByRecursion (λ r. length r.bytes ≡ 4096) read → PutsWholePages held d
+        → PutsWholePages (with_writes (writes_of on e read held n d) held) (drafted e n d) }
+    ensures others { (on : Place → PageUnit) (e : Edit) (read : List ReadUnit) (held : Held) (n : ℕ) (d : Draft) (taking : ℕ) → taking < n
+        → ((page : ℕ) → ¬ (finite.get d.puts page ≡ Some taking)) → with_writes (writes_of on e read held n d) held taking ≡ held taking }
 {}
 
 /// The writes of an operation make what its edit says the units are to hold. Writes can be made one operation after the other, and where they
 /// can be made for so many takings they can for more.
 pub fn writes_make_contents()
-    ensures one { (ops : List Op) (at : ℕ) (op : Op) (read : List ReadUnit) (held : Held) (n : ℕ) (d : Draft) (writes : List PageWrite)
-        → op_at ops at ≡ op → AllByRecursion (IsWriteBy at) writes → IsNumbered n d
-        → map (made_by op read held) writes ≡ writes_of (edit_of op d.size) read held n d
-        → after_writes ops read writes held ≡ with_writes (writes_of (edit_of op d.size) read held n d) held }
+    ensures one { (on : Place → PageUnit) (ops : List Op) (at : ℕ) (op : Op) (read : List ReadUnit) (held : Held) (n : ℕ) (d : Draft)
+        (writes : List PageWrite) → op_at ops at ≡ op → AllByRecursion (IsWriteBy at) writes → IsNumbered n d
+        → map (made_by op read held) writes ≡ writes_of on (edit_of op d.size) read held n d
+        → after_writes ops read writes held ≡ with_writes (writes_of on (edit_of op d.size) read held n d) held }
     ensures more { (ops : List Op) (read : List ReadUnit) (held : Held) (writes later : List PageWrite)
         → after_writes ops read (writes ++ later) held ≡ after_writes ops read later (after_writes ops read writes held) }
     ensures can { (ops : List Op) (takings more : ℕ) (writes : List PageWrite) → takings ≤ more

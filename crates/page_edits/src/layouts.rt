@@ -4,7 +4,7 @@ ghost use Rattle.std.specs.FinMap as finite;
 ghost use Rattle.plan_drafts.specs.Plans.{laid};
 ghost use Rattle.page_edits.specs.Writes.{held_in};
 
-use blob_map::{PageMap, Place};
+use blob_map::{At, PageMap, Place};
 use bytes::Bytes as SharedBytes;
 use crc32c_csum::crc32c;
 use plan_drafts::Draft;
@@ -25,7 +25,8 @@ pub fn lay(draft: Draft, units: &[UnitNo], contents: &[SharedBytes]) -> Result<P
     for (page, taking) in puts.entries() {
         let unit = units[*taking as usize];
         let csum = crc32c(contents[*taking as usize].as_slice());
-        kept.set(*page, Place { unit, csum })?;
+        let at = At::Unit { unit, csum };
+        kept.set(*page, Place { at })?;
     }
     Ok(kept)
 }

@@ -5,11 +5,11 @@
 //! In Ceph's BlueStore `_do_write`, `_do_zero` and `_do_truncate` do this work, and change the onode as they go.
 //!
 //! Proved: of an object in the middle of a transaction, some of whose pages stand where they stood and some were put by takings before,
-//! `edit` gives what an operation on its bytes makes: which pages it puts, by which takings, which it clears, which units are left, and
-//! the places whose old bytes it needs. `contents` gives what the units of all takings are to hold, from the bytes that were read; a page
-//! that was put before is changed from what it was given then. `lay` puts the pages on units, each with the checksum of its bytes. No
-//! page stands past the object's end, each taking is of one page, and where the old pages held the object's bytes, the new ones hold its
-//! bytes after the operation.
+//! `edit` gives what an operation on its bytes makes: which pages it puts, by which takings, which it clears, which places are left, and
+//! the units whose old bytes it needs, by the rows where pages stand on slots of shared blobs. `contents` gives what the units of all
+//! takings are to hold, from the bytes that were read; a page that was put before is changed from what it was given then. `lay` puts the
+//! pages on units, each with the checksum of its bytes. No page stands past the object's end, each taking is of one page, and where the old
+//! pages held the object's bytes, the new ones hold its bytes after the operation.
 #![tactic(auto)]
 
 mod edits;

@@ -4,7 +4,7 @@ use Rattle.std.proofs.lemmas.List.Concat.{flat_map-cons}
 use Rattle.unit_fields.specs.declared.width.Width.{Width}
 use Rattle.meta_rows.specs.Prelude.{BeginsReached, SkipsTo}
 use Rattle.row_format.specs.Prelude.{Extent, ExtentsAscend}
-use Rattle.page_lookup.specs.Prelude.{extents_read, rows_read, place_found, EndBehind, LeavesOut, BeginsBy, HasUnit}
+use Rattle.page_lookup.specs.Prelude.{extents_read, rows_read, place_found, EndBehind, LeavesOut, BeginsBy, HasNumber}
 use Rattle.page_lookup.proofs.Finding.{found_at_front, found_among, leaves_none, leaves_more, leaves_before, leaves_before_begun}
 
 abbrev Entry : Type 0
@@ -79,5 +79,5 @@ module _ (w : Width) (page : ℕ) (front : List ℕ) (rows : List Entry) (start 
       sym (found_at_front page (extents_read w front) (rows_read w rows) ends some)
       ∙ found_among page start (extents_read w front ++ rows_read w rows) left
 
-  pub unit_left : EndBehind page (extents_read w front) → (extents_read w front ≡ [] → ⊥) → HasUnit start page → HasUnit (extents_read w front) page
-  unit_left ends some has unit csum is = has unit csum (sym (found_left ends some) ∙ is)
+  pub number_left : EndBehind page (extents_read w front) → (extents_read w front ≡ [] → ⊥) → HasNumber start page → HasNumber (extents_read w front) page
+  number_left ends some has place is = has place (sym (found_left ends some) ∙ is)

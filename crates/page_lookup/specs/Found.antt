@@ -3,7 +3,7 @@ use Rattle.std.specs.Prelude.{◌≡◌, ◌↔◌, ℕ, ◌-◌, ◌<◌, ◌�
 use Rattle.std.specs.List.{AllByRecursion}
 use Rattle.unit_fields.specs.declared.width.Width.{Width}
 use Rattle.meta_rows.specs.Prelude.{Rows}
-use Rattle.row_format.specs.Prelude.{Extent, Place, own, place_in, page_end}
+use Rattle.row_format.specs.Prelude.{Extent, Place, own, slot, place_in, page_end}
 use Rattle.store_image.specs.Prelude.{IsPageAt}
 
 -- the place of a page, looked for no further than to the first extent that begins behind it; of extents that ascend it is the place
@@ -29,9 +29,14 @@ abbrev pub BeginsBy : ℕ → List Extent → Type 0
 BeginsBy page [] = ⊥
 BeginsBy page (e ∷ es) = e.first ≤ page
 
--- the page's unit has a number of 32 bits, if it is found
-abbrev pub HasUnit : List Extent → ℕ → Type 0
-HasUnit es page = (unit csum : ℕ) → place_found es page ≡ Some (own unit csum) → unit < 2 ^ 32
+-- the number of its unit or of its slot fits its field
+abbrev pub IsNumbered : Place → Type 0
+IsNumbered (own unit csum) = unit < 2 ^ 32
+IsNumbered (slot sbid index) = index < 2 ^ 16
+
+-- so does that of the page's place, if it is found
+abbrev pub HasNumber : List Extent → ℕ → Type 0
+HasNumber es page = (place : Place) → place_found es page ≡ Some place → IsNumbered place
 
 -- the object's pages are found among these extents, each in its place, and no others
 abbrev pub FindPagesOf : Width → Rows → List ℕ → List ℕ → List Extent → Type 0

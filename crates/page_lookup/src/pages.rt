@@ -2,7 +2,7 @@
 ghost use Rattle.std.specs.Prelude.{◌≡◌};
 ghost use Rattle.page_lookup.specs.Bytes.{rows_read};
 ghost use Rattle.row_format.specs.Prelude.{ExtentsAscend};
-ghost use Rattle.page_lookup.specs.Found.{place_found, LeavesOut, HasUnit};
+ghost use Rattle.page_lookup.specs.Found.{place_found, LeavesOut, HasNumber};
 
 use crate::shard::{begins_by, is_done, place_at_front, skip_to};
 use blob_map::Place;
@@ -65,7 +65,7 @@ impl<'a> Rest<'a> {
 
     // Where a page stands. The extents that end in front of it are left out.
     fn find(&mut self, page: u32) -> Option<Place>
-        requires { HasUnit self.old page }
+        requires { HasNumber self.old page }
         ensures place { result ≡ place_found self.old page }
         ensures left { LeavesOut page self.old self.new }
     {
@@ -146,7 +146,7 @@ impl<'a> ShardPages<'a> {
 
     /// Where a page stands. None: it is a hole.
     pub fn find(&mut self, page: u32) -> Option<Place>
-        requires { HasUnit self.old page }
+        requires { HasNumber self.old page }
         ensures place { result ≡ place_found self.old page }
         ensures same { self.new ≡ self.old }
     {

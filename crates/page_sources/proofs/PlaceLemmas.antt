@@ -13,12 +13,10 @@ use Rattle.read_facts.proofs.Units.{good_append}
 use Rattle.plan_rows.specs.declared.plan.ReadUnit.{ReadUnit}
 use Rattle.page_sources.specs.declared.parts.PartFail.{PartFail}
 use Rattle.page_sources.specs.declared.parts.PartFail.TheVariants as why
+use Rattle.page_sources.specs.Found.{unit_with}
 use Rattle.page_sources.specs.Parts.{AreSums, IsUnitsFail}
 use Rattle.page_sources.specs.Places.{GivesPlaces, IsPlacesFail}
 use Rattle.page_sources.proofs.PartLemmas.{held}
-
-abbrev page_unit_of : ℕ → ℕ → PageUnit
-page_unit_of unit csum = record { unit = unit; csum = csum }
 
 -- one unit that was read holds these bytes
 held_whole : (d : Disk) (unit : ℕ) (bytes : List ℕ) → HasRead d unit 1 bytes → IsHeldAt d unit bytes
@@ -28,7 +26,7 @@ held_whole d unit bytes read =
     (subst (λ (u : ℕ). IsHeldAt d u (unit_at 0 bytes)) first (held d unit 1 0 bytes read (omega arith)))
 
 -- a unit that isn't in memory was read, and its bytes have the checksum that is kept
-pub unit_given : (memory : ℕ → Option (List ℕ)) (d : Disk) (place : PageUnit) (unit csum at : ℕ) (bytes sums : List ℕ) → page_unit_of unit csum ≡ place
+pub unit_given : (memory : ℕ → Option (List ℕ)) (d : Disk) (place : PageUnit) (unit csum at : ℕ) (bytes sums : List ℕ) → unit_with unit csum ≡ place
     → at ≡ unit → memory at ≡ None → get_or sums 0 0 ≡ csum → HasRead d at 1 bytes → AreSums 1 bytes sums
     → GivesPlaces memory d (place ∷ []) (record { unit = unit; bytes = bytes } ∷ [])
 unit_given memory d place unit csum at bytes sums is there away kept read are =
@@ -36,7 +34,7 @@ unit_given memory d place unit csum at bytes sums is there away kept read are =
     let out : memory unit ≡ None = ap memory (sym there) ∙ away in
     let holds : IsHeldAt d unit bytes = subst (λ (u : ℕ). IsHeldAt d u bytes) there (held_whole d at bytes read) in
     let sum : crc32c bytes ≡ csum = ap crc32c (sym (unit_at-whole bytes long)) ∙ sym (are 0 (omega arith)) ∙ kept in
-    let gives : IsRead memory (IsHeldAt d) (page_unit_of unit csum) bytes =
+    let gives : IsRead memory (IsHeldAt d) (unit_with unit csum) bytes =
     subst (λ (copy : Option (List ℕ)). MatchOption copy (IsHeldAt d unit bytes × (crc32c bytes ≡ csum)) (λ b. bytes ≡ b)) (sym out) (holds, sum) in
     subst (λ (p : PageUnit). GivesPlaces memory d (p ∷ []) (record { unit = unit; bytes = bytes } ∷ [])) is (record {
       units = record { units = refl; whole = (long, tt) };
@@ -45,7 +43,7 @@ unit_given memory d place unit csum at bytes sums is there away kept read are =
 
 -- a unit that isn't in memory failed to be read, or has another checksum
 pub unit_fails : (memory : ℕ → Option (List ℕ)) (d : Disk) (place : PageUnit) (unit csum at : ℕ) (sums : List ℕ) (fail : PartFail)
-    → page_unit_of unit csum ≡ place → at ≡ unit → memory at ≡ None → get_or sums 0 0 ≡ csum → IsUnitsFail d at 1 sums fail
+    → unit_with unit csum ≡ place → at ≡ unit → memory at ≡ None → get_or sums 0 0 ≡ csum → IsUnitsFail d at 1 sums fail
     → IsPlacesFail memory d (place ∷ []) fail
 unit_fails memory d place unit csum at sums (why.BadPage bad) is there away kept fails =
     let bytes = fails.0 in
@@ -57,7 +55,7 @@ unit_fails memory d place unit csum at sums (why.BadPage bad) is there away kept
     record {
       front = [];
       rest = [];
-      is = ap (λ (p : PageUnit). p ∷ []) (sym is ∙ sym (ap₂ page_unit_of (from ∙ there) same));
+      is = ap (λ (p : PageUnit). p ∷ []) (sym is ∙ sym (ap₂ unit_with (from ∙ there) same));
       before = [];
       good = tt;
       bad = record {
@@ -72,7 +70,7 @@ unit_fails memory d place unit csum at sums (why.BadPage bad) is there away kept
 unit_fails memory d place unit csum at sums why.Memory is there away kept fails = tt
 unit_fails memory d place unit csum at sums why.Fault is there away kept fails = record {
   front = [];
-  on = page_unit_of unit csum;
+  on = unit_with unit csum;
   rest = [];
   is = ap (λ (p : PageUnit). p ∷ []) (sym is);
   not_in_memory = ap memory (sym there) ∙ away;
@@ -114,7 +112,7 @@ pub fails_behind_places : (memory : ℕ → Option (List ℕ)) (d : Disk) (place
     → IsPlacesFail memory d (place ∷ []) fail → IsPlacesFail memory d places fail
 fails_behind_places memory d places i place read (why.BadPage bad) lt is front fails =
     let rest = from_place places i place lt is in
-    let one = only_place place (page_unit_of bad.unit bad.kept) fails.front fails.rest fails.is in
+    let one = only_place place (unit_with bad.unit bad.kept) fails.front fails.rest fails.is in
     record {
       front = take i places;
       rest = rest.0;

@@ -1,17 +1,16 @@
 //! Pages read from memory or from the device, some at a time.
 ghost use Rattle.std.specs.Prelude.{◌≡◌, ◌+◌, ◌-◌, ◌*◌, ◌^◌, ◌<◌, ◌≤◌, None, Some, IsTrue, IsSome, IfOk, IfErr, IfNone, IfSome, IsErrOf, OnOk, ℕ, length, get_or, min};
 ghost use Rattle.byte_maps.specs.Units.{unit_at, zeros, IsUnits};
-ghost use Rattle.page_lookup.specs.Prelude.{place_found};
 ghost use Rattle.crc32c_csum.specs.Prelude.{crc32c};
-ghost use Rattle.row_format.specs.Prelude.{own};
 ghost use Rattle.block_device.specs.Prelude.{HasRead, IsNotInFlight, Rose};
 ghost use Rattle.write_buffers.specs.Prelude.{memory_in};
+ghost use Rattle.page_sources.specs.Found.{unit_found, IsFoundOn};
 ghost use Rattle.page_sources.specs.Parts.{part_fail_of, HaveFewUnits, CanRead, AreHoles, AreKept, AreSums, IsPageRun, IsMismatch, IsUnitsFail, GivesPages, IsPartFail};
 ghost use Rattle.page_sources.specs.declared.parts.PartFail.TheVariants.{Memory};
 
+use crate::finding::UnitPages;
 use block_device::{Device, Failed};
 use crc32c_csum::crc32c;
-use page_lookup::ShardPages;
 use read_facts::BadSum;
 use std::alloc::AllocError;
 use unit_fields::UnitNo;
@@ -62,18 +61,16 @@ enum Run {
     InMemory { unit: u32 },
 }
 
-fn is_hole(pages: &mut ShardPages, page: u32) -> bool
-    requires { HaveFewUnits pages.old }
-    ensures hole { IsTrue result → place_found pages.old page ≡ None }
+fn is_hole(pages: &mut UnitPages, page: u32) -> bool
+    ensures hole { IsTrue result → unit_found pages.old page ≡ None }
     ensures kept { pages.new ≡ pages.old }
 {
     pages.find(page).is_none()
 }
 
 // How many of the pages from the first on, which is a hole, are holes in a row.
-fn hole_pages(pages: &mut ShardPages, first: u32, most: u32) -> u32
-    requires inside { HaveFewUnits pages.old }
-    requires hole { place_found pages.old first ≡ None }
+fn hole_pages(pages: &mut UnitPages, first: u32, most: u32) -> u32
+    requires hole { unit_found pages.old first ≡ None }
     requires some { 0 < most }
     requires fits { first + most ≤ 2 ^ 32 }
     ensures some { 0 < result }
@@ -90,22 +87,20 @@ fn hole_pages(pages: &mut ShardPages, first: u32, most: u32) -> u32
 }
 
 // The kept checksum of a page that stands on this unit. None: it is a hole, or stands elsewhere.
-fn csum_on(pages: &mut ShardPages, page: u32, unit: u32) -> Option<u32>
-    requires { HaveFewUnits pages.old }
-    ensures stands { IfSome result (λ csum. place_found pages.old page ≡ Some (own unit csum)) }
+fn csum_on(pages: &mut UnitPages, page: u32, unit: u32) -> Option<u32>
+    ensures stands { IfSome result (IsFoundOn pages.old page unit) }
     ensures kept { pages.new ≡ pages.old }
 {
-    let place = pages.find(page)?;
-    if place.unit.number() == unit {
-        return Some(place.csum);
+    let on = pages.find(page)?;
+    if on.unit.number() == unit {
+        return Some(on.csum);
     }
     None
 }
 
 // How many of the pages from the first on, which stands on unit `at`, stand on consecutive units. The checksums that are kept for
 // them go into `sums`, where that of the first one is.
-fn unit_pages(pages: &mut ShardPages, first: u32, at: u32, most: u32, sums: &mut Sums) -> u32
-    requires inside { HaveFewUnits pages.old }
+fn unit_pages(pages: &mut UnitPages, first: u32, at: u32, most: u32, sums: &mut Sums) -> u32
     requires stands { AreKept pages.old first at 1 sums.old }
     requires some { 0 < most }
     requires few { most ≤ 64 }
@@ -135,7 +130,7 @@ fn lay_zeros_sums(sums: &mut Sums)
 // The run of pages from the first on, below the end, and before the next page whose unit is in memory. The checksums that are kept for its
 // pages go into `sums`, and for holes that of a page of zeros.
 fn run_from(
-    pages: &mut ShardPages,
+    pages: &mut UnitPages,
     buffers: &WriteBuffers,
     first: u32,
     end: u32,
@@ -148,13 +143,13 @@ fn run_from(
 {
     let most = (end - first).min(PIECE_UNITS);
     match pages.find(first) {
-        Some(place) => {
-            let at = place.unit.number();
+        Some(on) => {
+            let at = on.unit.number();
             let free = buffers.absent_from(at, most);
             if free == 0 {
                 return Run::InMemory { unit: at };
             }
-            sums[0] = place.csum;
+            sums[0] = on.csum;
             let count = unit_pages(pages, first, at, free, sums);
             Run::Units { at, count }
         }
@@ -253,7 +248,7 @@ fn copy_page(
 pub fn read_part<D: Device>(
     device: &mut D,
     buffers: &WriteBuffers,
-    pages: &mut ShardPages,
+    pages: &mut UnitPages,
     first: u32,
     end: u32,
     sums: &mut Sums,

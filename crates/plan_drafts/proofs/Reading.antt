@@ -21,7 +21,7 @@ use Rattle.unit_allocator.specs.Prelude.{Space}
 use Rattle.plan_drafts.specs.declared.draft.Draft.{Draft}
 use Rattle.plan_rows.specs.declared.plan.Plan.{Plan}
 use Rattle.plan_rows.specs.declared.plan.ReadUnit.{ReadUnit}
-use Rattle.plan_drafts.specs.Prelude.{Edit, fate_of, is_left, needs_old, pages_put, drafted, page_unit, place_read, places_read, Layout, HasLayout, or_empty, object_of, or_new, edit_on, draft_after, places_on, CollDraft, at_name, with_op, places_of, IsTaken, AreTaken, draft_of, Begins, AsksFor, Plans}
+use Rattle.plan_drafts.specs.Prelude.{Edit, fate_of, is_left, needs_old, pages_put, drafted, PlacesStand, place_read, places_read, Layout, HasLayout, or_empty, object_of, or_new, edit_on, draft_after, places_on, CollDraft, at_name, with_op, places_of, IsTaken, AreTaken, draft_of, Begins, AsksFor, Plans}
 
 -- ---- names
 
@@ -104,37 +104,36 @@ pub record IsPageOf (w : Width) (rows : Rows) (on : PageUnit) : Type 0 where
   pub size : ℕ
   pub there : HasOnode rows coll object size
 
-pub page_stands : (rows : Rows) (place : Place) → StandsOn rows place (page_unit place)
-page_stands rows (own unit csum) = refl
-
 module _ (w : Width) (rows : Rows) (c : List ℕ) (layouts : List ℕ → Option Layout) (has : (o : List ℕ) → IsName o → HasLayout w rows c o (layouts o)) where
-  page_of_layout : (o : List ℕ) (page : ℕ) (place : Place) → IsName o → finite.get (or_empty (layouts o)).pages page ≡ Some place → IsPageOf w rows (page_unit place)
-  page_of_layout o page place name is = by (layouts o) (has o name) is
+  page_of_layout : (on : Place → PageUnit) → PlacesStand w rows layouts on → (o : List ℕ) (page : ℕ) (place : Place) → IsName o
+      → finite.get (or_empty (layouts o)).pages page ≡ Some place → IsPageOf w rows (on place)
+  page_of_layout on stand o page place name is = by (layouts o) (has o name) is (stand o page place name is)
     where
-      by : (x : Option Layout) → HasLayout w rows c o x → finite.get (or_empty x).pages page ≡ Some place → IsPageOf w rows (page_unit place)
-      by None missing is = absurd (let t = sym (finite.get-empty nat_cmp page) ∙ is in cc)
-      by (Some l) stands is = record {
+      by : (x : Option Layout) → HasLayout w rows c o x → finite.get (or_empty x).pages page ≡ Some place → StandsOn w rows place (on place)
+          → IsPageOf w rows (on place)
+      by None missing is at = absurd (let t = sym (finite.get-empty nat_cmp page) ∙ is in cc)
+      by (Some l) stands is at = record {
         coll = c;
         object = o;
         page = page;
-        is_on = record { place = place; at = (stands.1 page place).0 is; stands = page_stands rows place };
+        is_on = record { place = place; at = (stands.1 page place).0 is; stands = at };
         size = l.size;
         there = stands.0;
       }
 
-  module _ (d : CollDraft) (kept : AreKept layouts d) where
-    at_page : (o : List ℕ) (e : Edit) (page : ℕ) → IsName o → AllByRecursion (IsPageOf w rows) (option_to_list (place_read (fate_of e (or_new (d.layout o)) page) (finite.get (or_new (d.layout o)).kept page)))
+  module _ (d : CollDraft) (kept : AreKept layouts d) (stand : PlacesStand w rows layouts d.on) where
+    at_page : (o : List ℕ) (e : Edit) (page : ℕ) → IsName o → AllByRecursion (IsPageOf w rows) (option_to_list (place_read d.on (fate_of e (or_new (d.layout o)) page) (finite.get (or_new (d.layout o)).kept page)))
     at_page o e page name = by (needs_old (fate_of e (or_new (d.layout o)) page)) (finite.get (or_new (d.layout o)).kept page) refl
       where
-        by : (b : Bool) (x : Option Place) → finite.get (or_new (d.layout o)).kept page ≡ x → AllByRecursion (IsPageOf w rows) (option_to_list (cond b (option_map page_unit x) None))
+        by : (b : Bool) (x : Option Place) → finite.get (or_new (d.layout o)).kept page ≡ x → AllByRecursion (IsPageOf w rows) (option_to_list (cond b (option_map d.on x) None))
         by false x is = tt
         by true None is = tt
-        by true (Some place) is = (page_of_layout o page place name (new_kept layouts d kept o page place name is), tt)
+        by true (Some place) is = (page_of_layout d.on stand o page place name (new_kept layouts d kept o page place name is), tt)
 
     at_pages : (o : List ℕ) (e : Edit) → IsName o → (pages : List ℕ)
-        → AllByRecursion (IsPageOf w rows) (flat_map (λ page. option_to_list (place_read (fate_of e (or_new (d.layout o)) page) (finite.get (or_new (d.layout o)).kept page))) pages)
+        → AllByRecursion (IsPageOf w rows) (flat_map (λ page. option_to_list (place_read d.on (fate_of e (or_new (d.layout o)) page) (finite.get (or_new (d.layout o)).kept page))) pages)
     at_pages o e name [] = tt
-    at_pages o e name (page ∷ pages) = both (option_to_list (place_read (fate_of e (or_new (d.layout o)) page) (finite.get (or_new (d.layout o)).kept page))) _ (at_page o e page name) (at_pages o e name pages)
+    at_pages o e name (page ∷ pages) = both (option_to_list (place_read d.on (fate_of e (or_new (d.layout o)) page) (finite.get (or_new (d.layout o)).kept page))) _ (at_page o e page name) (at_pages o e name pages)
       where
         both : (xs ys : List PageUnit) → AllByRecursion (IsPageOf w rows) xs → AllByRecursion (IsPageOf w rows) ys → AllByRecursion (IsPageOf w rows) (xs ++ ys)
         both [] ys a b = b
@@ -143,10 +142,10 @@ module _ (w : Width) (rows : Rows) (c : List ℕ) (layouts : List ℕ → Option
     on_places : (op : Op) → IsTaken d op → AllByRecursion (IsPageOf w rows) (places_on op d)
     on_places op taken = by op taken
       where
-        of_edit : (o : List ℕ) (e : Edit) → IsName o → AllByRecursion (IsPageOf w rows) (places_read e (or_new (d.layout o)))
+        of_edit : (o : List ℕ) (e : Edit) → IsName o → AllByRecursion (IsPageOf w rows) (places_read d.on e (or_new (d.layout o)))
         of_edit o e name = at_pages o e name (pages_put e (or_new (d.layout o)))
 
-        either : (o : List ℕ) (x : Option Edit) → IsName o → AllByRecursion (IsPageOf w rows) (option_map_or (λ e. places_read e (or_new (d.layout o))) x [])
+        either : (o : List ℕ) (x : Option Edit) → IsName o → AllByRecursion (IsPageOf w rows) (option_map_or (λ e. places_read d.on e (or_new (d.layout o))) x [])
         either o None name = tt
         either o (Some e) name = of_edit o e name
 
@@ -169,11 +168,11 @@ module _ (w : Width) (rows : Rows) (c : List ℕ) (layouts : List ℕ → Option
         by (OmapClear o) taken = tt
         by (OmapHeader o value) taken = tt
 
-  all_places : (ops : List Op) (d : CollDraft) → AreKept layouts d → AreTaken ops d → AllByRecursion (IsPageOf w rows) (places_of ops d)
-  all_places [] d kept taken = tt
-  all_places (op ∷ ops) d kept taken =
-      both (places_on op d) (places_of ops (with_op op d)) (on_places d kept op taken.0)
-      (all_places ops (with_op op d) (kept_after layouts d kept op) taken.1)
+  all_places : (ops : List Op) (d : CollDraft) → AreKept layouts d → PlacesStand w rows layouts d.on → AreTaken ops d → AllByRecursion (IsPageOf w rows) (places_of ops d)
+  all_places [] d kept stand taken = tt
+  all_places (op ∷ ops) d kept stand taken =
+      both (places_on op d) (places_of ops (with_op op d)) (on_places d kept stand op taken.0)
+      (all_places ops (with_op op d) (kept_after layouts d kept op) stand taken.1)
     where
       both : (xs ys : List PageUnit) → AllByRecursion (IsPageOf w rows) xs → AllByRecursion (IsPageOf w rows) ys → AllByRecursion (IsPageOf w rows) (xs ++ ys)
       both [] ys a b = b
@@ -192,7 +191,7 @@ pub asked_places : (w : Width) (change : Change) (rows : Rows) (need : ℕ) (pla
     → AllByRecursion (IsPageOf w rows) places
 asked_places w change rows need places asks = subst (AllByRecursion (IsPageOf w rows)) (sym asks.places_are)
     (all_places w rows change.coll asks.layouts asks.begins.has change.ops asks.start
-    (kept_first w rows change.coll asks.layouts asks.start asks.begins) asks.taken)
+    (kept_first w rows change.coll asks.layouts asks.start asks.begins) asks.begins.stand asks.taken)
 
 -- so a page stands on each of their units
 pub units_have_pages : (w : Width) (rows : Rows) (places : List PageUnit) → AllByRecursion (IsPageOf w rows) places
@@ -213,4 +212,4 @@ pub plan_read : (w : Width) (change : Change) (rows : Rows) (space : Space) (pla
 plan_read w change rows space plan is = all_units (HasPage w rows) plan.read (subst (AllByRecursion (HasPage w rows)) (sym is.read.units)
     (units_have_pages w rows (places_of change.ops is.start)
     (all_places w rows change.coll is.layouts is.begins.has change.ops is.start
-    (kept_first w rows change.coll is.layouts is.start is.begins) is.taken)))
+    (kept_first w rows change.coll is.layouts is.start is.begins) is.begins.stand is.taken)))

@@ -10,6 +10,7 @@ use Rattle.object_model.specs.declared.op.Refusal.TheVariants.{NoCollection, Col
 use Rattle.object_model.specs.Prelude.{object_limit, is_same, any_value_long}
 use Rattle.object_model.specs.Effect.{value_limit}
 use Rattle.unit_fields.specs.Prelude.{IsName}
+use Rattle.row_format.specs.Prelude.{Place}
 use Rattle.store_image.specs.Prelude.{PageUnit}
 use Rattle.plan_drafts.specs.declared.draft.Draft.{Draft}
 use Rattle.plan_rows.specs.declared.plan.ReadUnit.{ReadUnit}
@@ -69,12 +70,14 @@ edit_on op x = None
 
 -- ---- the collection
 
--- Whether it is there; its objects, each missing or so long and with its pages there; their values; and how many units were taken.
+-- Whether it is there; its objects, each missing or so long and with its pages there; their values; how many units were taken; and on which
+-- unit each place is, which no operation changes.
 pub record CollDraft : Type 0 where
   pub there : Bool
   pub layout : List ℕ → Option Draft
   pub value : List ℕ → ValueKey → Option (List ℕ)
   pub taken : ℕ
+  pub on : Place → PageUnit
 
 -- ---- what one operation makes of it
 
@@ -96,10 +99,10 @@ abbrev pub units_on : Op → CollDraft → ℕ
 units_on op d = option_map_or (λ e. length (pages_taking e (or_new (object_before op d)))) (edit_on op (object_before op d)) 0
 
 abbrev pub places_on : Op → CollDraft → List PageUnit
-places_on op d = option_map_or (λ e. places_read e (or_new (object_before op d))) (edit_on op (object_before op d)) []
+places_on op d = option_map_or (λ e. places_read d.on e (or_new (object_before op d))) (edit_on op (object_before op d)) []
 
 abbrev pub writes_on : Op → List ReadUnit → Held → CollDraft → List (ℕ × List ℕ)
-writes_on op read held d = option_map_or (λ e. writes_of e read held d.taken (or_new (object_before op d))) (edit_on op (object_before op d)) []
+writes_on op read held d = option_map_or (λ e. writes_of d.on e read held d.taken (or_new (object_before op d))) (edit_on op (object_before op d)) []
 
 abbrev pub there_after : Op → Bool → Bool
 there_after MkColl there = true
@@ -117,6 +120,7 @@ with_op op d = record {
   layout = at_name (object_of op) (draft_after op d) d.layout;
   value = at_name (object_of op) (values_on op d) d.value;
   taken = d.taken + units_on op d;
+  on = d.on;
 }
 
 -- after operations, one after the other

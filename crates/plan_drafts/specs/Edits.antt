@@ -5,7 +5,7 @@ use Rattle.std.specs.Option.{option_map, option_map_or, option_to_list}
 use Rattle.std.specs.FinMap as finite
 use Rattle.byte_maps.specs.Units.{zeros}
 use Rattle.crc32c_csum.specs.Prelude.{crc32c}
-use Rattle.row_format.specs.Prelude.{Place, own}
+use Rattle.row_format.specs.Prelude.{Place, own, slot}
 use Rattle.store_image.specs.Prelude.{PageUnit, page_bytes}
 use Rattle.number_map.specs.NumberMap.{NumberMap, is_key_in}
 use Rattle.plan_drafts.specs.declared.draft.Draft.{Draft}
@@ -85,16 +85,17 @@ abbrev pub pages_taking : Edit → Draft → List ℕ
 pages_taking e d = filter (λ page. takes_unit (fate_of e d page)) (pages_put e d)
 
 -- where a page is read, if some of its old bytes stay
-abbrev pub place_read : Fate → Option Place → Option PageUnit
-place_read fate kept = if needs_old fate then option_map page_unit kept else None
+abbrev pub place_read : (Place → PageUnit) → Fate → Option Place → Option PageUnit
+place_read on fate kept = if needs_old fate then option_map on kept else None
 
 -- the places where old bytes are read, in order: each a unit, and the checksum that is kept for its page
-abbrev pub places_read : Edit → Draft → List PageUnit
-places_read e d = flat_map (λ page. option_to_list (place_read (fate_of e d page) (finite.get d.kept page))) (pages_put e d)
+abbrev pub places_read : (Place → PageUnit) → Edit → Draft → List PageUnit
+places_read on e d = flat_map (λ page. option_to_list (place_read on (fate_of e d page) (finite.get d.kept page))) (pages_put e d)
 
 -- the units that are released where a page leaves its place: that of the object's own on which it stood
 abbrev pub units_released : Place → List ℕ
 units_released (own unit csum) = unit ∷ []
+units_released (slot sbid index) = []
 
 -- pages put by takings from this number on, one each
 abbrev pub with_takings : ℕ → List ℕ → NumberMap ℕ → NumberMap ℕ
@@ -116,19 +117,19 @@ abbrev pub Held : Type 0
 Held = ℕ → List ℕ
 
 -- the old bytes of a page: what the unit is to hold on which it was put, those of the place where it stands, or zeros of a hole
-abbrev pub old_page : List ReadUnit → Held → Draft → ℕ → List ℕ
-old_page read held d page = option_map_or held (finite.get d.puts page) (option_map_or (old_bytes_in read) (finite.get d.kept page) (zeros 4096))
+abbrev pub old_page : (Place → PageUnit) → List ReadUnit → Held → Draft → ℕ → List ℕ
+old_page on read held d page = option_map_or held (finite.get d.puts page) (option_map_or (old_bytes_in on read) (finite.get d.kept page) (zeros 4096))
 
 -- the taking by which a page was put
 abbrev pub taking_of : Draft → ℕ → ℕ
 taking_of d page = unwrap_or (finite.get d.puts page) 0
 
 -- a page with the bytes that it gets, by the taking of its unit
-abbrev pub page_written : Edit → List ReadUnit → Held → Draft → Draft → ℕ → ℕ × List ℕ
-page_written e read held d after page = (taking_of after page, page_after e.off e.piece page (old_page read held d page))
+abbrev pub page_written : (Place → PageUnit) → Edit → List ReadUnit → Held → Draft → Draft → ℕ → ℕ × List ℕ
+page_written on e read held d after page = (taking_of after page, page_after e.off e.piece page (old_page on read held d page))
 
-abbrev pub writes_of : Edit → List ReadUnit → Held → ℕ → Draft → List (ℕ × List ℕ)
-writes_of e read held n d = map (page_written e read held d (drafted e n d)) (pages_put e d)
+abbrev pub writes_of : (Place → PageUnit) → Edit → List ReadUnit → Held → ℕ → Draft → List (ℕ × List ℕ)
+writes_of on e read held n d = map (page_written on e read held d (drafted e n d)) (pages_put e d)
 
 -- what units are to hold after these have got new bytes, one after the other
 abbrev pub with_writes : List (ℕ × List ℕ) → Held → Held
@@ -143,8 +144,8 @@ EndsBelow d end = (page : ℕ) → is_there d page ≡ true → page < end
 
 -- The pages hold these bytes: the unit of each that stands where it stood holds it, with the checksum that is kept, what was put is to hold
 -- it, and holes are zeros.
-pub record HoldBytes (at : ℕ → List ℕ) (held : Held) (d : Draft) (bytes : List ℕ) : Type 0 where
+pub record HoldBytes (on : Place → PageUnit) (at : ℕ → List ℕ) (held : Held) (d : Draft) (bytes : List ℕ) : Type 0 where
   pub kept : (page : ℕ) (place : Place) → finite.get d.kept page ≡ Some place → finite.get d.puts page ≡ None
-      → (at (page_unit place).unit ≡ page_bytes bytes page) × (crc32c (page_bytes bytes page) ≡ (page_unit place).csum)
+      → (at (on place).unit ≡ page_bytes bytes page) × (crc32c (page_bytes bytes page) ≡ (on place).csum)
   pub put : (page taking : ℕ) → finite.get d.puts page ≡ Some taking → held taking ≡ page_bytes bytes page
   pub holes : (page : ℕ) → is_there d page ≡ false → page_bytes bytes page ≡ zeros 4096

@@ -4,7 +4,7 @@ pub use Rattle.plan_drafts.specs.Edits.{covers_whole, pages_touched, page_after,
 pub use Rattle.plan_drafts.specs.Layouts.{IsSizeOf, missing, there, IsMapOf, Layout, HasLayout, or_empty, IsKeyOf, size_at, extents_at, AreCut, GetsShards, stay, cut, GetsLayout, TurnsBits}
 pub use Rattle.plan_rows.specs.Values.{ValueKey, attribute, header, pair, value_key, IsValueKey, IsKeyOfValue, value_in, is_among, not_empty, value_after}
 pub use Rattle.plan_drafts.specs.Drafts.{IsKnownOp, IsKnown, IsOnColl, IsOnObject, object_of, is_beyond, needs_object, HasNames, or_new, edit_on, CollDraft, object_before, draft_after, values_on, units_on, places_on, writes_on, there_after, at_name, with_op, with_ops, places_of, held_after, held_by, none_held, IsTakenOn, IsBare, IsTaken, AreTaken, HasSome, IsRefused, exists, absent, occupied, beyond, lost, AreRefused, here, later}
-pub use Rattle.plan_drafts.specs.Asks.{draft_of, Begins, AsksFor, AreReadAt}
+pub use Rattle.plan_drafts.specs.Asks.{draft_of, PlacesStand, Begins, AsksFor, AreReadAt}
 pub use Rattle.plan_drafts.specs.Plans.{most_units_of, most_units, place_put, laid, laid_at, IsKeyOfColl, GetsDraft, Stands, Leaves, filled, HoldsFresh, IsFreshUnit, StandsOnce, fresh_units, MakesDraft, Plans, AreFreeOver}
 pub use Rattle.plan_rows.specs.Names.{IsObjectKind, IsKeyIn, IsKeyOfSome, AgreeOn, AreOf, HaveNoneInCommon, IsOwnedBy}
 pub use Rattle.plan_drafts.specs.Keeps.{IsGood, Suits, OwnsItsUnits, AreWhole, PlanKeeps, HoldsRead, PlanMakes, PlanTakes, PlansKeep, AsksAreFew}

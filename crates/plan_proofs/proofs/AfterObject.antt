@@ -8,19 +8,20 @@ use Rattle.std.proofs.lemmas.Bool.{cases_Bool, ltb-true, leb-true}
 use Rattle.std.proofs.lemmas.Bool.Decides.{nat_tests}
 use Rattle.meta_rows.specs.Prelude.{Rows}
 use Rattle.meta_log.specs.declared.slot.Super.{Super}
-use Rattle.meta_log.specs.Prelude.{width_of}
+use Rattle.meta_log.specs.Prelude.{width_of, data_unit}
 use Rattle.unit_fields.specs.Prelude.{IsName, IsCollName}
 use Rattle.unit_fields.specs.declared.width.Width.{Width}
-use Rattle.row_format.specs.Prelude.{coll_key, onode_key, Extent, FitsExtent, BeginsAt, ExtentsAscend, Place, place_in, place_of, page_count, page_end, shard, row_value}
+use Rattle.row_format.specs.Prelude.{coll_key, onode_key, Extent, FitsExtent, Body, private, shared, BeginsAt, ExtentsAscend, Place, place_in, place_of, page_count, page_end, shard, row_value}
 use Rattle.row_format.proofs.Prelude.{same_row}
 use Rattle.store_image.specs.Prelude.{HasKey, HasOnode, HasShard, IsPageAt, pages_of, IsOnData, IsShardInPlace}
-use Rattle.blob_map.specs.Prelude.{PageMap, extents_of}
+use Rattle.blob_map.specs.Prelude.{PageMap, IsBodyWithin, extents_of}
 use Rattle.blob_map.proofs.Forms.{extents_places, extents_ascend}
 use Rattle.extent_shards.specs.Prelude.{shard_bytes, shards_of, shard_limit, first_of, shard_at, joined_extents}
 use Rattle.extent_shards.proofs.Joins.{shards_back}
 use Rattle.extent_shards.proofs.Openings.{all_behind, ascend_behind, HasExtent, all_full, IsOneOf, each_is, part_all, part_ascends, at_is_one, one_is_at, earlier_ends, of_map_rise}
 use Rattle.plan_drafts.specs.Prelude.{AreCut}
 use Rattle.plan_proofs.proofs.Lengths.{has_page}
+use Rattle.plan_proofs.proofs.NoSlots.{IsOwn, wants_none}
 use Rattle.object_rows.proofs.Shards.{found_left, found_right}
 
 -- ---- pages of extents
@@ -91,6 +92,28 @@ page_from n (e ∷ es) page place from is = elim (cases_Bool (has_it e page)) [
   | inl here ↦ omega (arith, from.0, leb-true e.first page (both_first (nat_le e.first page) (nat_lt page (page_end e)) here))
   | inr not ↦ page_from n es page place from.1 (sym (ap (either_place e es page) not) ∙ is)
 ]
+
+-- where each of their pages stands on a unit of the object's own, all of them stand on data units by their units alone
+on_data_body : (s : Super) (body : Body) (i : ℕ) → IsOwn (place_in body i) → IsBodyWithin (data_unit s) s.units body → IsOnData s body
+on_data_body s (private unit csums) i its within = within
+on_data_body s (shared sbid first count) i its within = absurd its
+
+before_it : (e : Extent) (page : ℕ) → page_end e ≤ page → has_it e page ≡ false
+before_it e page le = elim (cases_Bool (has_it e page)) [
+  | inr not ↦ not
+  | inl here ↦ absurd (omega (arith, le, ltb-true page (page_end e) (both_second (nat_le e.first page) (nat_lt page (page_end e)) here)))
+]
+
+pub own_on_data : (s : Super) (es : List Extent) → ExtentsAscend es → AllByRecursion (FitsExtent (width_of s)) es
+    → ((page : ℕ) (place : Place) → place_of es page ≡ Some place → IsOwn place)
+    → AllByRecursion (λ e. IsBodyWithin (data_unit s) s.units e.body) es → AllByRecursion (λ e. IsOnData s e.body) es
+own_on_data s [] ascend fit its within = tt
+own_on_data s (e ∷ es) ascend fit its within = (
+  on_data_body s e.body (e.first - e.first)
+      (its e.first (place_in e.body (e.first - e.first)) (ap (either_place e es e.first) (has_first e (has_page (width_of s) e.body fit.0.body)))) within.0,
+  own_on_data s es ascend.1 fit.1 (λ page place is.
+      its page place (ap (either_place e es page) (before_it e page (page_from (page_end e) es page place ascend.0 is)) ∙ is)) within.1,
+)
 
 none_before : (xs ys : List Extent) (page : ℕ) (place : Place) → ExtentsAscend (xs ++ ys) → place_of ys page ≡ Some place → place_of xs page ≡ None
 none_before [] ys page place ascend is = refl
@@ -223,4 +246,5 @@ module _ (s : Super) (after : Rows) (c o : List ℕ) (pages : PageMap) (coll : I
             (earlier_ends shards (of_map_rise (width_of s) (Some shard_limit) pages) fs es other.0 one.0 (omega (arith, other.1, one.1, below)));
         within = λ size h. of_part (λ e. page_end e ≤ pages_of size) (within size h) es one.0;
         on_data = of_part (λ e. IsOnData s e.body) on_data es one.0;
+        slots = wants_none s after c es (of_part (λ e. IsOnData s e.body) on_data es one.0);
       }

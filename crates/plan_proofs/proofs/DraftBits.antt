@@ -14,7 +14,8 @@ use Rattle.row_facts.proofs.Bits.{bits_stay}
 use Rattle.plan_drafts.specs.Prelude.{Held, Layout, CollDraft, TurnsBits, Stands, Leaves}
 use Rattle.plan_proofs.proofs.DraftOwners.{taking_owns, owned_before, owned_after, left_was, sole_after, gone}
 use Rattle.plan_proofs.proofs.DraftRows.{AreDrafted, bits_same, drafted_good}
-use Rattle.object_rows.proofs.GoodPages.{owned_is_data}
+use Rattle.plan_proofs.proofs.NoSlots.{no_counts}
+use Rattle.plan_rows.proofs.OnData.{owned_on_data}
 
 -- the units on which pages stand that were put, and those that pages have left
 pub record AreTurned (layouts : List ℕ → Option Layout) (units : List ℕ) (y : CollDraft) (fresh released : List ℕ) : Type 0 where
@@ -84,7 +85,7 @@ module _ (s : Super) (rows after : Rows) (c : List ℕ) (layouts : List ℕ → 
   turned_data : (v : ℕ) → Has turns.units v → IsDataUnit s v
   turned_data v turned = elim ((turned_is v).0 turned) [
     | inl k ↦ let t = (are.taken v).0 k in subst (IsDataUnit s) (sym t.2) (a.on_data t.0 t.1)
-    | inr k ↦ owned_is_data s rows v a.good (was_owned v k)
+    | inr k ↦ owned_on_data s rows v a.good (was_owned v k)
   ]
 
   pub last_good : NoBadRow s last
@@ -118,7 +119,7 @@ module _ (s : Super) (rows after : Rows) (c : List ℕ) (layouts : List ℕ → 
     -- an owned one is marked
     last_owned_marked : (v : ℕ) → IsOwned (width_of s) last v → IsMarked last v
     last_owned_marked v is =
-        let small : v < 2 ^ 32 = omega (arith, (owned_is_data s last v last_good is).1, a.units_most) in
+        let small : v < 2 ^ 32 = omega (arith, (owned_on_data s last v last_good is).1, a.units_most) in
         elim (last_owned v is) [
           | inl k ↦ (bits v small).1 (inr ((λ marked. unmarked v k ((same_marks v).0 marked)), (turned_is v).1 (inl k)))
           | inr owned ↦ (bits v small).1 (inl (
@@ -131,4 +132,9 @@ module _ (s : Super) (rows after : Rows) (c : List ℕ) (layouts : List ℕ → 
         ]
 
     pub last_exact : IsExactAs (width_of s) leaves last
-    last_exact = record { marked = last_marked; owned_marked = last_owned_marked; one_owner = λ v. last_sole v (exact.one_owner v) }
+    last_exact = record {
+      marked = last_marked;
+      owned_marked = last_owned_marked;
+      one_owner = λ v. last_sole v (exact.one_owner v);
+      counts = no_counts s last last_good;
+    }

@@ -8,6 +8,7 @@ use Rattle.std.proofs.lemmas.List.{map-append}
 use Rattle.object_model.specs.declared.op.Op.{Op}
 use Rattle.object_model.specs.Prelude.{Object, Collection, object_limit, effects, ◌>>=◌}
 use Rattle.unit_fields.specs.Prelude.{IsName}
+use Rattle.row_format.specs.Prelude.{Place}
 use Rattle.store_image.specs.Prelude.{PageUnit}
 use Rattle.plan_drafts.specs.declared.draft.Draft.{Draft}
 use Rattle.plan_rows.specs.declared.plan.ReadUnit.{ReadUnit}
@@ -26,31 +27,33 @@ abbrev pub AreWhole : Held → Draft → Type 0
 AreWhole held d = (page taking : ℕ) → finite.get d.puts page ≡ Some taking → length (held taking) ≡ 4096
 
 pub record ByteLaws : Type 0 where
-  pub bytes : (at : ℕ → List ℕ) (held : Held) (op : Op) (old : List ℕ) (read : List ReadUnit) (n : ℕ) (d : Draft)
-      → IsInLimits op → length old ≤ object_limit → d.size ≡ length old → HoldBytes at held d old
+  pub bytes : (on : Place → PageUnit) (at : ℕ → List ℕ) (held : Held) (op : Op) (old : List ℕ) (read : List ReadUnit) (n : ℕ) (d : Draft)
+      → IsInLimits op → length old ≤ object_limit → d.size ≡ length old → HoldBytes on at held d old
       → ((page taking : ℕ) → finite.get d.puts page ≡ Some taking → taking < n)
       → ((page other taking : ℕ) → finite.get d.puts page ≡ Some taking → finite.get d.puts other ≡ Some taking → page ≡ other)
-      → WereRead at (places_read (edit_of op d.size) d) read
-      → HoldBytes at (with_writes (writes_of (edit_of op d.size) read held n d) held) (drafted (edit_of op d.size) n d) (bytes_after op old)
-  pub whole : (e : Edit) (read : List ReadUnit) (held : Held) (n : ℕ) (d : Draft) → AllByRecursion (λ r. length r.bytes ≡ 4096) read
-      → AreWhole held d → AreWhole (with_writes (writes_of e read held n d) held) (drafted e n d)
-  pub others : (e : Edit) (read : List ReadUnit) (held : Held) (n : ℕ) (d : Draft) (taking : ℕ) → taking < n
-      → ((page : ℕ) → ¬ (finite.get d.puts page ≡ Some taking)) → with_writes (writes_of e read held n d) held taking ≡ held taking
+      → WereRead at (places_read on (edit_of op d.size) d) read
+      → HoldBytes on at (with_writes (writes_of on (edit_of op d.size) read held n d) held) (drafted (edit_of op d.size) n d) (bytes_after op old)
+  pub whole : (on : Place → PageUnit) (e : Edit) (read : List ReadUnit) (held : Held) (n : ℕ) (d : Draft) → AllByRecursion (λ r. length r.bytes ≡ 4096) read
+      → AreWhole held d → AreWhole (with_writes (writes_of on e read held n d) held) (drafted e n d)
+  pub others : (on : Place → PageUnit) (e : Edit) (read : List ReadUnit) (held : Held) (n : ℕ) (d : Draft) (taking : ℕ) → taking < n
+      → ((page : ℕ) → ¬ (finite.get d.puts page ≡ Some taking)) → with_writes (writes_of on e read held n d) held taking ≡ held taking
 
 -- ---- one operation
 
 -- each object's pages hold its bytes
 abbrev pub HoldsAll : (ℕ → List ℕ) → Held → CollDraft → Option Collection → Type 0
-HoldsAll at held d k = (o : List ℕ) (x : Draft) (b : Object) → IsName o → d.layout o ≡ Some x → object_in k o ≡ Some b → HoldBytes at held x b.bytes
+HoldsAll at held d k = (o : List ℕ) (x : Draft) (b : Object) → IsName o → d.layout o ≡ Some x → object_in k o ≡ Some b
+    → HoldBytes d.on at held x b.bytes
 
 -- and what was put is to hold whole pages
 abbrev pub AllWhole : Held → CollDraft → Type 0
 AllWhole held d = (o : List ℕ) (x : Draft) → IsName o → d.layout o ≡ Some x → AreWhole held x
 
 -- the same of units that are to hold the same
-held_same : (at : ℕ → List ℕ) (held later : Held) (x : Draft) (bytes : List ℕ)
-    → ((page taking : ℕ) → finite.get x.puts page ≡ Some taking → later taking ≡ held taking) → HoldBytes at held x bytes → HoldBytes at later x bytes
-held_same at held later x bytes same hold = record {
+held_same : (on : Place → PageUnit) (at : ℕ → List ℕ) (held later : Held) (x : Draft) (bytes : List ℕ)
+    → ((page taking : ℕ) → finite.get x.puts page ≡ Some taking → later taking ≡ held taking) → HoldBytes on at held x bytes
+    → HoldBytes on at later x bytes
+held_same on at held later x bytes same hold = record {
   kept = hold.kept;
   put = λ page taking is. same page taking is ∙ hold.put page taking is;
   holes = hold.holes;
@@ -72,12 +75,12 @@ module _ (laws : EditLaws) (lengths : LengthLaw) (bytes : ByteLaws) (layouts : L
 
   -- without an edit nothing is written
   unwritten : edit_on op x ≡ None → (taking : ℕ) → later taking ≡ held taking
-  unwritten none taking = ap (λ (e : Option Edit). with_writes (option_map_or (λ e. writes_of e read held d.taken (or_new x)) e []) held taking) none
+  unwritten none taking = ap (λ (e : Option Edit). with_writes (option_map_or (λ e. writes_of d.on e read held d.taken (or_new x)) e []) held taking) none
 
   written : (edits : Edits op d) → (taking : ℕ)
-      → later taking ≡ with_writes (writes_of (edit_of op (or_new x).size) read held d.taken (or_new x)) held taking
+      → later taking ≡ with_writes (writes_of d.on (edit_of op (or_new x).size) read held d.taken (or_new x)) held taking
   written edits taking =
-      ap (λ (e : Option Edit). with_writes (option_map_or (λ e. writes_of e read held d.taken (or_new x)) e []) held taking) edits.edit
+      ap (λ (e : Option Edit). with_writes (option_map_or (λ e. writes_of d.on e read held d.taken (or_new x)) e []) held taking) edits.edit
 
   -- an edit is of an object that has a name
   edits_named : Edits op d → IsName o
@@ -96,7 +99,7 @@ module _ (laws : EditLaws) (lengths : LengthLaw) (bytes : ByteLaws) (layouts : L
     | inl goes ↦ unwritten goes.edit taking
     | inr other ↦ elim other [
       | inl keeps ↦ unwritten keeps.edit taking
-      | inr edits ↦ written edits taking ∙ bytes.others (edit_of op (or_new x).size) read held d.taken (or_new x) taking
+      | inr edits ↦ written edits taking ∙ bytes.others d.on (edit_of op (or_new x).size) read held d.taken (or_new x) taking
           ((r.objects u z name there).below page taking put) (none_of (edits_named edits) x refl)
     ]
   ]
@@ -113,10 +116,10 @@ module _ (laws : EditLaws) (lengths : LengthLaw) (bytes : ByteLaws) (layouts : L
     there = object_in k o
 
     -- an object's pages hold its bytes, and those of a missing one hold none
-    old_hold : IsName o → HoldBytes at held (or_new x) (bytes_of there)
+    old_hold : IsName o → HoldBytes d.on at held (or_new x) (bytes_of there)
     old_hold name = by x there refl refl (m.sizes o name)
       where
-        by : (w : Option Draft) (b : Option Object) → x ≡ w → there ≡ b → SameSize w b → HoldBytes at held (or_new w) (bytes_of b)
+        by : (w : Option Draft) (b : Option Object) → x ≡ w → there ≡ b → SameSize w b → HoldBytes d.on at held (or_new w) (bytes_of b)
         by None None p q e = record {
           kept = λ page place is none. absurd (let t = sym (finite.get-empty nat_cmp page) ∙ is in cc);
           put = λ page taking is. absurd (let t = sym (finite.get-empty nat_cmp page) ∙ is in cc);
@@ -159,7 +162,7 @@ module _ (laws : EditLaws) (lengths : LengthLaw) (bytes : ByteLaws) (layouts : L
     sized : IsName o → SameSize x (valued_on op there)
     sized name = valued_size there (m.sizes o name)
 
-    own_hold : IsName o → (y : Draft) (b : Object) → draft_after op d ≡ Some y → object_on op there ≡ Some b → HoldBytes at later y b.bytes
+    own_hold : IsName o → (y : Draft) (b : Object) → draft_after op d ≡ Some y → object_on op there ≡ Some b → HoldBytes d.on at later y b.bytes
     own_hold name y b is new = elim (what_becomes op d) [
       | inl goes ↦ absurd (let t = sym (goes.made) ∙ is in cc)
       | inr other ↦ elim other [
@@ -172,10 +175,10 @@ module _ (laws : EditLaws) (lengths : LengthLaw) (bytes : ByteLaws) (layouts : L
             let e : drafted (edit_of op (or_new x).size) d.taken (or_new x) ≡ y = cc in
             let made : Some (bytes_after op (bytes_of (valued_on op there))) ≡ Some b.bytes = sym (edits.bytes (valued_on op there) (sized name)) ∙ new_bytes b new in
             let made_is : bytes_after op (bytes_of there) ≡ b.bytes = ap (bytes_after op) (sym (bytes_same there)) ∙ some_same _ _ made in
-            subst (λ z. HoldBytes at later z b.bytes) e (subst (HoldBytes at later (drafted (edit_of op (or_new x).size) d.taken (or_new x))) made_is
-            (held_same at (with_writes (writes_of (edit_of op (or_new x).size) read held d.taken (or_new x)) held) later
+            subst (λ z. HoldBytes d.on at later z b.bytes) e (subst (HoldBytes d.on at later (drafted (edit_of op (or_new x).size) d.taken (or_new x))) made_is
+            (held_same d.on at (with_writes (writes_of d.on (edit_of op (or_new x).size) read held d.taken (or_new x)) held) later
             (drafted (edit_of op (or_new x).size) d.taken (or_new x)) (bytes_after op (bytes_of there)) (λ page taking put. written edits taking)
-            (bytes.bytes at held op (bytes_of there) read d.taken (or_new x) (fits taken) short (old_size name) (old_hold name)
+            (bytes.bytes d.on at held op (bytes_of there) read d.taken (or_new x) (fits taken) short (old_size name) (old_hold name)
             (x_reached laws layouts op d taken r name).below (alone laws layouts op d taken r name) (read_for edits))))
       ]
     ]
@@ -192,17 +195,17 @@ module _ (laws : EditLaws) (lengths : LengthLaw) (bytes : ByteLaws) (layouts : L
         short : length (bytes_of there) ≤ object_limit
         short = omega (arith, old_size name, (x_reached laws layouts op d taken r name).most)
 
-        read_for : Edits op d → WereRead at (places_read (edit_of op (or_new x).size) (or_new x)) read
-        read_for edits = subst (λ ps. WereRead at ps read) (ap (λ (e : Option Edit). option_map_or (λ e. places_read e (or_new x)) e []) edits.edit) were
+        read_for : Edits op d → WereRead at (places_read d.on (edit_of op (or_new x).size) (or_new x)) read
+        read_for edits = subst (λ ps. WereRead at ps read) (ap (λ (e : Option Edit). option_map_or (λ e. places_read d.on e (or_new x)) e []) edits.edit) were
 
-        kept_hold : Keeps op d → x ≡ Some y → option_map (λ (z : Object). z.bytes) there ≡ Some b.bytes → HoldBytes at later y b.bytes
+        kept_hold : Keeps op d → x ≡ Some y → option_map (λ (z : Object). z.bytes) there ≡ Some b.bytes → HoldBytes d.on at later y b.bytes
         kept_hold keeps p q = by there refl q
           where
-            by : (w : Option Object) → there ≡ w → option_map (λ (z : Object). z.bytes) w ≡ Some b.bytes → HoldBytes at later y b.bytes
+            by : (w : Option Object) → there ≡ w → option_map (λ (z : Object). z.bytes) w ≡ Some b.bytes → HoldBytes d.on at later y b.bytes
             by None e q = absurd cc
             by (Some w) e q =
                 let same : w.bytes ≡ b.bytes = some_same w.bytes b.bytes q in
-                subst (HoldBytes at later y) same (held_same at held later y w.bytes (λ page taking put. unwritten keeps.edit taking) (all o y w name p e))
+                subst (HoldBytes d.on at later y) same (held_same d.on at held later y w.bytes (λ page taking put. unwritten keeps.edit taking) (all o y w name p e))
 
     pub holds_after : HoldsAll at later after lead.then
     holds_after u y b name is there_is = elim (layout_cases laws layouts op d taken r u) [
@@ -211,7 +214,7 @@ module _ (laws : EditLaws) (lengths : LengthLaw) (bytes : ByteLaws) (layouts : L
           own_hold own y b (sym mine.1 ∙ is) (own_object own b (ap (object_in lead.then) (sym mine.0) ∙ there_is))
       | inr other ↦
           let stood = sym other.1 ∙ is in
-          held_same at held later y b.bytes (others_keep u y name other.0 stood)
+          held_same d.on at held later y b.bytes (others_keep u y name other.0 stood)
           (all u y b name stood (sym (lead.others u other.0) ∙ there_is))
     ]
       where
@@ -242,12 +245,17 @@ module _ (laws : EditLaws) (lengths : LengthLaw) (bytes : ByteLaws) (layouts : L
           | inr edits ↦
               let same : Some (drafted (edit_of op (or_new x).size) d.taken (or_new x)) ≡ Some y = sym (edits.made) ∙ made in
               let e : drafted (edit_of op (or_new x).size) d.taken (or_new x) ≡ y = cc in
-              ap length (written edits taking) ∙ bytes.whole (edit_of op (or_new x).size) read held d.taken (or_new x) read_whole (x_whole named) page taking
+              ap length (written edits taking) ∙ bytes.whole d.on (edit_of op (or_new x).size) read held d.taken (or_new x) read_whole (x_whole named) page taking
               (ap (λ (z : Draft). finite.get z.puts page) e ∙ put)
         ]
       ]
 
 -- ---- operations
+
+-- they leave places on their units
+pub on_same : (ops : List Op) (d : CollDraft) → (with_ops ops d).on ≡ d.on
+on_same [] d = refl
+on_same (op ∷ ops) d = on_same ops (with_op op d)
 
 -- what was read of places that stand one behind the other
 front_read : (at : ℕ → List ℕ) (ps qs : List PageUnit) (read : List ReadUnit) → WereRead at (ps ++ qs) read → WereRead at ps read × WereRead at qs read

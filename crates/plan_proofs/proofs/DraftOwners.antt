@@ -10,11 +10,11 @@ use Rattle.meta_log.specs.declared.slot.Super.{Super}
 use Rattle.meta_log.specs.Prelude.{width_of}
 use Rattle.unit_fields.specs.Prelude.{IsName, IsCollName}
 use Rattle.row_format.specs.Prelude.{Place, own, shard}
-use Rattle.store_image.specs.Prelude.{IsPageAt, NoBadRow, Owner, page_of, Owns, IsOwned, HasSoleOwner}
-use Rattle.store_image.proofs.Prelude.{equal_or_not, in_place}
+use Rattle.store_image.specs.Prelude.{IsPageAt, NoBadRow, Owner, page_of, slot_of, Owns, IsOwned, HasSoleOwner}
+use Rattle.store_image.proofs.Prelude.{equal_or_not, in_place, slot_still}
 use Rattle.plan_drafts.specs.declared.draft.Draft.{Draft}
 use Rattle.plan_drafts.specs.Prelude.{Held, IsMapOf, Layout, HasLayout, or_empty, or_new, CollDraft, place_put, laid, Stands, Leaves}
-use Rattle.plan_proofs.proofs.DraftRows.{AreDrafted, now, OfDraft, of_draft, object_reached, has_now, other_page, drafted_good}
+use Rattle.plan_proofs.proofs.DraftRows.{AreDrafted, now, OfDraft, of_draft, object_reached, has_now, other_page, blobs_same, drafted_good}
 use Rattle.plan_proofs.proofs.Laid.{StandsAt, by_taking, as_before, laid_put, laid_kept}
 use Rattle.plan_proofs.proofs.Reached.{IsObjectReached}
 
@@ -48,13 +48,13 @@ module _ (s : Super) (rows after : Rows) (c : List ℕ) (layouts : List ℕ → 
   new_pages o name = layout_pages s after c o (now s rows after c layouts units held y a o) (drafted_good s rows after c layouts units held y a)
       (has_now s rows after c layouts units held y a o name)
 
-  -- a page that owns a unit is of a taking, or owned it before
+  -- what owns a unit is a page of a taking, or owned it before
   pub data OwnsBy (owner : Owner) (v : ℕ) : Type 0 where
     takes : (o : List ℕ) (page taking : ℕ) (d : Draft) → IsName o → y.layout o ≡ Some d → finite.get d.puts page ≡ Some taking
         → owner ≡ page_of c o page → v ≡ slice_index units taking → OwnsBy owner v
     keeps : (o : List ℕ) (page csum : ℕ) (d : Draft) → IsName o → y.layout o ≡ Some d → finite.get d.puts page ≡ None
         → finite.get d.kept page ≡ Some (own v csum) → owner ≡ page_of c o page → Owns (width_of s) rows owner v → OwnsBy owner v
-    elsewhere : (d u : List ℕ) (page : ℕ) → d ≢ c → owner ≡ page_of d u page → Owns (width_of s) rows owner v → OwnsBy owner v
+    elsewhere : ((o : List ℕ) (page : ℕ) → owner ≢ page_of c o page) → Owns (width_of s) rows owner v → OwnsBy owner v
 
   name_of : (d u : List ℕ) (page : ℕ) (place : Place) (r : Rows) → IsPageAt (width_of s) r d u page place → IsName u
   name_of d u page place r is = is.has_shard.fits.object_name
@@ -64,7 +64,7 @@ module _ (s : Super) (rows after : Rows) (c : List ℕ) (layouts : List ℕ → 
 
   pub owners : (owner : Owner) (v : ℕ) → Owns (width_of s) after owner v → OwnsBy owner v
   owners (page_of d u page) v owns = elim (equal_or_not d c) [
-    | inr other ↦ elsewhere d u page other refl (
+    | inr other ↦ elsewhere (λ o p e. other (coll_same o p e)) (
       owns.0,
       (other_page s rows after c layouts units held y a d
           (coll_of d u page (own v owns.0) after owns.1) other u page (own v owns.0)).0 owns.1,
@@ -90,6 +90,11 @@ module _ (s : Super) (rows after : Rows) (c : List ℕ) (layouts : List ℕ → 
           keeps u page csum of.draft name of.there none is (ap (λ z. page_of z u page) e)
           (subst (λ z. Owns (width_of s) rows (page_of z u page) v) (sym e) was)
 
+      coll_same : (o : List ℕ) (p : ℕ) → page_of d u page ≡ page_of c o p → d ≡ c
+      coll_same o p e = cc
+  owners (slot_of sbid index) v owns = elsewhere (λ o p e. absurd cc)
+      (owns.0, (slot_still (width_of s) after rows sbid index v owns.0 (sym (blobs_same s rows after c layouts units held y a sbid)) owns.1.0, owns.1.1))
+
   -- ---- what is owned
 
   -- a taking that stands owns its unit
@@ -108,7 +113,7 @@ module _ (s : Super) (rows after : Rows) (c : List ℕ) (layouts : List ℕ → 
       by (takes o page taking d name there put is v_is) =
           inl (taking, record { object = o; named = name; draft = d; there = there; page = page; put = put }, v_is)
       by (keeps o page csum d name there none kept is was) = inr (owned.0, was)
-      by (elsewhere d u page other is was) = inr (owned.0, was)
+      by (elsewhere other was) = inr (owned.0, was)
 
   kept_or_none : (x : Option Place) → ((place : Place) × (x ≡ Some place)) ⊎ (x ≡ None)
   kept_or_none None = inr refl
@@ -171,6 +176,10 @@ module _ (s : Super) (rows after : Rows) (c : List ℕ) (layouts : List ℕ → 
                     | None ↦ λ p. refl
                     | Some t ↦ λ p. absurd (r.apart page t place kept p)
                   ] refl
+      by (slot_of sbid index) owns = inl (
+        slot_of sbid index,
+        (owns.0, (slot_still (width_of s) rows after sbid index v owns.0 (blobs_same s rows after c layouts units held y a sbid) owns.1.0, owns.1.1)),
+      )
 
   -- a unit that is left was owned by a page of the collection
   pub left_was : (v : ℕ) (l : Leaves layouts y v) → Owns (width_of s) rows (page_of c l.object l.page) v
@@ -204,14 +213,14 @@ module _ (s : Super) (rows after : Rows) (c : List ℕ) (layouts : List ℕ → 
             is ∙ (λ i. page_of c (one.0 i) (one.1 i)) ∙ sym is_too
         by (takes o page taking d name there put is v_is) (keeps u other csum e named there_too none kept is_too was) =
             absurd (unowned o page taking d name there put v_is q was)
-        by (takes o page taking d name there put is v_is) (elsewhere e u other apart is_too was) = absurd (unowned o page taking d name there put v_is q was)
+        by (takes o page taking d name there put is v_is) (elsewhere other_owner was) = absurd (unowned o page taking d name there put v_is q was)
         by (keeps u other csum e named there_too none kept is_too was) (takes o page taking d name there put is v_is) =
             absurd (unowned o page taking d name there put v_is p was)
-        by (elsewhere e u other apart is_too was) (takes o page taking d name there put is v_is) = absurd (unowned o page taking d name there put v_is p was)
+        by (elsewhere other_owner was) (takes o page taking d name there put is v_is) = absurd (unowned o page taking d name there put v_is p was)
         by (keeps u other csum e named there_too none kept is_too was) (keeps o page sum d name there hole stood is was_too) = sole p q was was_too
-        by (keeps u other csum e named there_too none kept is_too was) (elsewhere d o page apart is was_too) = sole p q was was_too
-        by (elsewhere d o page apart is was_too) (keeps u other csum e named there_too none kept is_too was) = sole p q was_too was
-        by (elsewhere d o page apart is was_too) (elsewhere e u other apart_too is_too was) = sole p q was_too was
+        by (keeps u other csum e named there_too none kept is_too was) (elsewhere other_owner was_too) = sole p q was was_too
+        by (elsewhere other_owner was_too) (keeps u other csum e named there_too none kept is_too was) = sole p q was_too was
+        by (elsewhere other_owner was_too) (elsewhere another was) = sole p q was_too was
 
     pub gone : (l : Leaves layouts y v) → IsOwned (width_of s) after v → ⊥
     gone l owned = by (owners owned.0 v owned.1)
@@ -221,12 +230,7 @@ module _ (s : Super) (rows after : Rows) (c : List ℕ) (layouts : List ℕ → 
 
         by : OwnsBy owned.0 v → ⊥
         by (takes o page taking d name there put is v_is) = unowned o page taking d name there put v_is (page_of c l.object l.page) was
-        by (elsewhere d o page other is before) =
-            let one : owned.0 ≡ page_of c l.object l.page = sole owned.0 (page_of c l.object l.page) before was in
-            other (coll_same d o page (sym is ∙ one))
-          where
-            coll_same : (d o : List ℕ) (page : ℕ) → page_of d o page ≡ page_of c l.object l.page → d ≡ c
-            coll_same d o page e = cc
+        by (elsewhere other before) = other l.object l.page (sole owned.0 (page_of c l.object l.page) before was)
         by (keeps o page csum d name there none kept is before) =
             let one : page_of c o page ≡ page_of c l.object l.page = sym is ∙ sole owned.0 (page_of c l.object l.page) before was in
             let left : finite.get (or_new (y.layout o)).kept page ≡ None =

@@ -12,7 +12,7 @@ use Rattle.meta_log.specs.declared.slot.Super.{Super}
 use Rattle.meta_log.specs.Prelude.{width_of, data_unit}
 use Rattle.object_model.specs.Prelude.{object_limit}
 use Rattle.unit_fields.specs.Prelude.{IsName, IsCollName}
-use Rattle.row_format.specs.Prelude.{coll_key, onode_key, shard_key, attr_key, header_key, omap_key, bitmap_key, Extent, FitsExtent, Place, Row, collection, onode, shard, omap_header, omap_pair, bitmap, row_key, row_value, FitsRow}
+use Rattle.row_format.specs.Prelude.{coll_key, onode_key, shard_key, attr_key, header_key, omap_key, shared_key, bitmap_key, Extent, FitsExtent, Place, Row, collection, onode, shard, omap_header, omap_pair, blob, bitmap, row_key, row_value, FitsRow}
 use Rattle.row_format.specs.Row as format
 use Rattle.row_format.proofs.Prelude.{same_head, same_coll, same_onode, same_shard, same_place, coll_no_object, onode_no_shard, bitmap_no_coll, bitmap_no_object, same_row}
 use Rattle.store_image.specs.Prelude.{HasKey, HasRow, HasOnode, HasShard, IsPageAt, pages_of, IsShardInPlace, HasObject, IsInPlace, IsGoodRow, NoBadRow, IsDataUnit}
@@ -20,10 +20,11 @@ use Rattle.store_image.proofs.Prelude.{equal_or_not, in_place}
 use Rattle.blob_map.specs.Prelude.{StandsWithin}
 use Rattle.extent_shards.specs.Prelude.{shard_bytes, shards_of, shard_limit, shard_at}
 use Rattle.plan_drafts.specs.declared.draft.Draft.{Draft}
-use Rattle.plan_drafts.specs.Prelude.{Held, Layout, HasLayout, or_empty, size_at, extents_at, AreCut, GetsShards, stay, cut, ValueKey, attribute, header, pair, value_key, IsValueKey, IsKeyOfValue, CollDraft, laid, laid_at, IsKeyOfColl, GetsDraft, Stands}
+use Rattle.plan_drafts.specs.Prelude.{Held, Layout, HasLayout, or_empty, size_at, extents_at, AreCut, GetsShards, stay, cut, ValueKey, attribute, header, pair, value_key, IsValueKey, IsKeyOfValue, PlacesStand, CollDraft, laid, laid_at, IsKeyOfColl, GetsDraft, Stands}
 use Rattle.plan_proofs.proofs.AfterObject.{ends_within, some_page, has_shard, own_pages, new_in_place}
 use Rattle.object_rows.proofs.GoodPages.{CsumFits, IsGoodPage, good_page}
 use Rattle.plan_proofs.proofs.Laid.{laid_cases, by_taking, as_before, StandsAt}
+use Rattle.plan_proofs.proofs.NoSlots.{IsOwn, layout_own, wants_none}
 use Rattle.plan_proofs.proofs.Maps.{size_is, places_at, layout_fit, layout_on_data}
 use Rattle.plan_proofs.proofs.Reached.{IsObjectReached, IsReached}
 use Rattle.plan_proofs.proofs.ValuesWritten.{FitsValue}
@@ -89,14 +90,22 @@ bits_apart c r (inr (o, name, inl (inl e))) = bitmap_no_object r c o _ e
 bits_apart c r (inr (o, name, inl (inr p))) = bitmap_no_object r c o _ p.2
 bits_apart c r (inr (o, name, inr its)) = no_value c o 0x62 _ (λ e. omega (arith, e)) (λ e. omega (arith, e)) its
 
+blobs_apart : (c : List ℕ) (sbid : ℕ) → IsKeyOfColl c (shared_key sbid) → ⊥
+blobs_apart c sbid (inl e) = omega (arith, same_head _ _ _ _ e)
+blobs_apart c sbid (inr (o, name, inl (inl e))) = omega (arith, same_head _ _ _ _ e)
+blobs_apart c sbid (inr (o, name, inl (inr p))) = omega (arith, same_head _ _ _ _ p.2)
+blobs_apart c sbid (inr (o, name, inr its)) = no_value c o 0x58 _ (λ e. omega (arith, e)) (λ e. omega (arith, e)) its
+
 -- ---- the rows after
 
--- What the rows after stand on: no row was bad, the draft was reached, and the rows after say it, with units for those takings on whose units pages stand.
+-- What the rows after stand on: no row was bad, places are on the units that the rows say, the draft was reached, and the rows after say it, with units for
+-- those takings on whose units pages stand.
 pub record AreDrafted (s : Super) (rows after : Rows) (c : List ℕ) (layouts : List ℕ → Option Layout) (units : List ℕ) (held : Held) (y : CollDraft) : Type 0 where
   pub good : NoBadRow s rows
   pub units_most : s.units ≤ 2 ^ 32
   pub coll : IsCollName c
   pub has : (o : List ℕ) → IsName o → HasLayout (width_of s) rows c o (layouts o)
+  pub stand : PlacesStand (width_of s) rows layouts y.on
   pub reached : IsReached layouts y
   pub gets : GetsDraft (width_of s) rows after c layouts units held y
   pub on_data : (taking : ℕ) → Stands y taking → IsDataUnit s (slice_index units taking)
@@ -184,13 +193,22 @@ module _ (s : Super) (rows after : Rows) (c : List ℕ) (layouts : List ℕ → 
             csum = was.1;
           }
 
+  -- all its pages stand on units of its own
+  pub now_own : (o : List ℕ) → IsName o → (page : ℕ) (place : Place) → finite.get (or_empty (now o)).pages page ≡ Some place → IsOwn place
+  now_own o name page place is = let of : OfDraft o page place = of_draft o page place is in by place of of.stands
+    where
+      by : (place : Place) (of : OfDraft o page place) → StandsAt units held of.draft page place → IsOwn place
+      by _ of (by_taking taking put) = tt
+      by _ of (as_before place none kept) =
+          layout_own s rows a.good c o (layouts o) (a.has o name) page place ((object_reached o of.draft name of.there).kept page place kept)
+
   -- ---- one object's rows
 
   abbrev extents : List ℕ → List Extent
   extents o = extents_at (now o)
 
   pub fit : (o : List ℕ) → IsName o → AllByRecursion (FitsExtent (width_of s)) (extents o)
-  fit o name = layout_fit s (now o) (now_most o name) a.units_most (now_good o name)
+  fit o name = layout_fit s (now o) (now_most o name) a.units_most (now_good o name) (now_own o name)
 
   module _ (o : List ℕ) (name : IsName o) where
     onode_fits : (n : ℕ) → size_at (now o) ≡ Some n → n < 2 ^ 64
@@ -344,6 +362,9 @@ module _ (s : Super) (rows after : Rows) (c : List ℕ) (layouts : List ℕ → 
   pub bits_same : (r : ℕ) → finite.get after (bitmap_key r) ≡ finite.get rows (bitmap_key r)
   bits_same r = elim (a.gets.others (bitmap_key r)) [ inl its ↦ absurd (bits_apart c r its) | inr same ↦ same ]
 
+  pub blobs_same : (sbid : ℕ) → finite.get after (shared_key sbid) ≡ finite.get rows (shared_key sbid)
+  blobs_same sbid = elim (a.gets.others (shared_key sbid)) [ inl its ↦ absurd (blobs_apart c sbid its) | inr same ↦ same ]
+
   -- ---- all are in their places
 
   -- an object with a value is there
@@ -385,12 +406,13 @@ module _ (s : Super) (rows after : Rows) (c : List ℕ) (layouts : List ℕ → 
             within = λ n h. ends_within (width_of s) es (pages_of n) has.fits.fit
                 (λ p place is. within_now n h p place (record { first = page; extents = es; has_shard = has; has_page = is }));
             on_data = was.on_data;
+            slots = wants_none s after c es was.on_data;
           }
       by (cut apart are) = new_in_place s after c u (or_empty (now u)).pages a.coll name (fit u name) are (coll_there u name is_there)
           (onode_there u name is_there)
           (λ n h. ends_within (width_of s) (extents u) (pages_of n) (fit u name)
           (λ p place is. within_now n h p place ((map_now u name p place).0 (sym (places_at (now u) p) ∙ is))))
-          (layout_on_data s (now u) (now_most u name) a.units_most (now_good u name)) page es has
+          (layout_on_data s (now u) (now_most u name) a.units_most (now_good u name) (now_own u name)) page es has
 
   placed : (x : Row) → HasRow (width_of s) after x → IsInPlace s after x
   placed (collection d) has = tt
@@ -418,6 +440,7 @@ module _ (s : Super) (rows after : Rows) (c : List ℕ) (layouts : List ℕ → 
           behind = λ earlier fs below h. was.behind earlier fs below ((other_shard d coll_is apart u earlier fs).0 h);
           within = λ n h. was.within n ((other_onode d coll_is apart u n).0 h);
           on_data = was.on_data;
+          slots = wants_none s after d es was.on_data;
         }
   ]
   placed (format.attribute d u n value) has = elim (equal_or_not d c) [
@@ -438,6 +461,8 @@ module _ (s : Super) (rows after : Rows) (c : List ℕ) (layouts : List ℕ → 
     | inr apart ↦ other_object d has.fits.coll_name apart u has.fits.object_name (in_place s rows (omap_pair d u q value) a.good
         (record { fits = has.fits; stands = sym (value_same d has.fits.coll_name apart u has.fits.object_name (pair q)) ∙ has.stands }))
   ]
+  placed (blob sbid first slots) has =
+      in_place s rows (blob sbid first slots) a.good (record { fits = has.fits; stands = sym (blobs_same sbid) ∙ has.stands })
   placed (bitmap r bits) has = in_place s rows (bitmap r bits) a.good (record { fits = has.fits; stands = sym (bits_same r) ∙ has.stands })
 
   -- a row by its key and its value

@@ -10,15 +10,16 @@ use Rattle.meta_log.specs.declared.slot.Super.{Super}
 use Rattle.meta_log.specs.Prelude.{width_of}
 use Rattle.object_model.specs.Prelude.{Object, Collection, Objects, with_collection, object_under}
 use Rattle.unit_fields.specs.Prelude.{IsName, IsCollName}
-use Rattle.row_format.specs.Prelude.{coll_key, onode_key, Place, own}
-use Rattle.store_image.specs.Prelude.{HasOnode, PageUnit, HasPage, IsPageAt, IsPageOn, IsHole, page_bytes, IsPageSeen, IsObjectShape, IsShape, AreObjectBytes, AreBytes, ObjectsStand}
-use Rattle.store_image.proofs.Prelude.{equal_or_not, stands_still, on_own, own_of}
+use Rattle.row_format.specs.Prelude.{coll_key, onode_key, Place}
+use Rattle.store_image.specs.Prelude.{HasOnode, PageUnit, StandsOn, HasPage, IsPageAt, IsPageOn, IsHole, page_bytes, IsPageSeen, IsObjectShape, IsShape, AreObjectBytes, AreBytes, ObjectsStand}
+use Rattle.store_image.proofs.Prelude.{equal_or_not, stands_still, some_unit}
+use Rattle.store_image.proofs.PageUnits.{one_unit}
 use Rattle.row_facts.proofs.Maps.{get_same, get_other}
 use Rattle.plan_drafts.specs.declared.draft.Draft.{Draft}
 use Rattle.plan_drafts.specs.Prelude.{Held, is_there, HoldBytes, Layout, HasLayout, or_empty, attribute, header, pair, not_empty, CollDraft, place_put, laid, Stands}
 use Rattle.plan_proofs.proofs.DraftBytes.{HoldsAll}
 use Rattle.plan_proofs.proofs.DraftOwners.{layout_pages}
-use Rattle.plan_proofs.proofs.DraftRows.{AreDrafted, now, has_now, object_reached, value_same, onode_same, other_onode, other_page, colls_same, drafted_good}
+use Rattle.plan_proofs.proofs.DraftRows.{AreDrafted, now, has_now, object_reached, value_same, onode_same, other_onode, other_page, blobs_same, colls_same, drafted_good}
 use Rattle.plan_proofs.proofs.Effects.{get_apart, get_taken}
 use Rattle.plan_proofs.proofs.Laid.{laid_put, laid_kept, laid_cases, StandsAt, by_taking, as_before}
 use Rattle.plan_proofs.proofs.Matches.{object_in, Matches}
@@ -160,7 +161,7 @@ module _ (s : Super) (rows after : Rows) (c : List ℕ) (layouts : List ℕ → 
         of : IsDrafted o b
         of = drafted_of o b is
 
-        hold : HoldBytes at held of.draft b.bytes
+        hold : HoldBytes y.on at held of.draft b.bytes
         hold = all o of.draft b name of.there is
 
         now_pages : (page : ℕ) → map.get (or_empty (now s rows after c layouts units held y a o)).pages page ≡ map.get (laid units held of.draft).pages page
@@ -171,46 +172,44 @@ module _ (s : Super) (rows after : Rows) (c : List ℕ) (layouts : List ℕ → 
         pages = layout_pages s after c o (now s rows after c layouts units held y a o) (drafted_good s rows after c layouts units held y a)
             (has_now s rows after c layouts units held y a o name)
 
-        unit_of : (u n v k : ℕ) → own u n ≡ own v k → u ≡ v
-        unit_of u n v k e = cc
-
-        csum_of : (u n v k : ℕ) → own u n ≡ own v k → n ≡ k
-        csum_of u n v k e = cc
-
         mapped : (page : ℕ) (on : PageUnit) → IsPageOn (width_of s) after c o page on → IsPageSeen later_at after on (page_bytes b.bytes page)
-        mapped page on on_page = by (own on.unit on.csum) refl (laid_cases units held of.draft page (own on.unit on.csum)
-            (sym (now_pages page) ∙ (pages page (own on.unit on.csum)).1 (own_of (width_of s) after c o page on on_page)))
+        mapped page on is_on = by is_on.place is_on.stands (laid_cases units held of.draft page is_on.place
+            (sym (now_pages page) ∙ (pages page is_on.place).1 is_on.at))
           where
-            by : (place : Place) → place ≡ own on.unit on.csum → StandsAt units held of.draft page place → IsPageSeen later_at after on (page_bytes b.bytes page)
-            by _ e (by_taking taking put) =
+            by : (place : Place) → StandsOn (width_of s) after place on → StandsAt units held of.draft page place
+                → IsPageSeen later_at after on (page_bytes b.bytes page)
+            by _ stands (by_taking taking put) =
                 let st : Stands y taking = record { object = o; named = name; draft = of.draft; there = of.there; page = page; put = put } in
                 let bytes : held taking ≡ page_bytes b.bytes page = hold.put page taking put in
-                record {
-                  seen = sym bytes ∙ sym (fresh taking st) ∙ ap later_at (unit_of (slice_index units taking) (crc32c (held taking)) on.unit on.csum e);
-                  kept = ap crc32c (sym bytes) ∙ csum_of (slice_index units taking) (crc32c (held taking)) on.unit on.csum e;
-                }
-            by place e (as_before _ none kept) =
-                let is_own : map.get of.draft.kept page ≡ Some (own on.unit on.csum) = kept ∙ ap Some e in
-                let held_there = hold.kept page (own on.unit on.csum) is_own none in
-                let before : IsPageAt (width_of s) rows c o page (own on.unit on.csum) =
-                (layout_pages s rows c o (layouts o) a.good (a.has o name) page (own on.unit on.csum)).0
-                ((object_reached s rows after c layouts units held y a o of.draft name of.there).kept page (own on.unit on.csum) is_own) in
+                let unit : slice_index units taking ≡ on.unit = sym (ap (λ (x : PageUnit). x.unit) stands) in
+                let csum : crc32c (held taking) ≡ on.csum = sym (ap (λ (x : PageUnit). x.csum) stands) in
+                record { seen = sym bytes ∙ sym (fresh taking st) ∙ ap later_at unit; kept = ap crc32c (sym bytes) ∙ csum }
+            by place stands (as_before _ none kept) =
+                let held_there = hold.kept page place kept none in
+                let stood = (object_reached s rows after c layouts units held y a o of.draft name of.there).kept page place kept in
+                let before : StandsOn (width_of s) rows place on =
+                stands_still (width_of s) after rows place on (λ sbid. sym (blobs_same s rows after c layouts units held y a sbid)) stands in
+                let on_is : y.on place ≡ on = one_unit (width_of s) rows place (y.on place) on (a.stand o page place name stood) before in
                 let has : HasPage (width_of s) rows on.unit = record {
                   coll = c;
                   object = o;
                   page = page;
                   on = on;
-                  is_on = on_own (width_of s) rows c o page on.unit on.csum before;
+                  is_on = record { place = place; at = (layout_pages s rows c o (layouts o) a.good (a.has o name) page place).0 stood; stands = before };
                   is_unit = refl;
                 } in
-                record { seen = sym (same on.unit has ∙ held_there.0); kept = held_there.1 }
+                record {
+                  seen = sym (same on.unit has ∙ ap (λ (x : PageUnit). at x.unit) (sym on_is) ∙ held_there.0);
+                  kept = held_there.1 ∙ ap (λ (x : PageUnit). x.csum) on_is;
+                }
 
         holes : (page : ℕ) → IsHole (width_of s) after c o page → page_bytes b.bytes page ≡ zeros 4096
         holes page hole = hold.holes page (not_there (is_there of.draft page) refl)
           where
             found : (place : Place) → map.get (laid units held of.draft).pages page ≡ Some place → ⊥
-            found (own unit csum) is_at = hole (record { unit = unit; csum = csum }) (on_own (width_of s) after c o page unit csum
-                ((pages page (own unit csum)).0 (now_pages page ∙ is_at)))
+            found place is_at =
+                let on = some_unit s after (drafted_good s rows after c layouts units held y a) c o page place ((pages page place).0 (now_pages page ∙ is_at)) in
+                hole on.0 on.1
 
             some_kept : (x : Option Place) (z : Option ℕ) → map.get of.draft.kept page ≡ x → map.get of.draft.puts page ≡ z
                 → (is_some x || is_some z) ≡ true → ⊥
@@ -228,7 +227,7 @@ module _ (s : Super) (rows after : Rows) (c : List ℕ) (layouts : List ℕ → 
           let was : IsPageOn (width_of s) rows d o page on = record {
             place = is.place;
             at = (other_page s rows after c layouts units held y a d coll_is apart o page is.place).0 is.at;
-            stands = stands_still after rows is.place on is.stands;
+            stands = stands_still (width_of s) after rows is.place on (λ sbid. sym (blobs_same s rows after c layouts units held y a sbid)) is.stands;
           } in
           let seen = before.mapped page on was in
           let has : HasPage (width_of s) rows on.unit = record { coll = d; object = o; page = page; on = on; is_on = was; is_unit = refl } in
@@ -236,7 +235,7 @@ module _ (s : Super) (rows after : Rows) (c : List ℕ) (layouts : List ℕ → 
       holes = λ page hole. before.holes page (λ on is. hole on (record {
         place = is.place;
         at = (other_page s rows after c layouts units held y a d coll_is apart o page is.place).1 is.at;
-        stands = stands_still rows after is.place on is.stands;
+        stands = stands_still (width_of s) rows after is.place on (blobs_same s rows after c layouts units held y a) is.stands;
       }));
     }
 

@@ -9,14 +9,13 @@ use Rattle.meta_log.specs.declared.slot.Super.{Super}
 use Rattle.meta_log.specs.Prelude.{width_of}
 use Rattle.object_model.specs.Prelude.{Object, Objects, object_under}
 use Rattle.unit_fields.specs.Prelude.{IsName, IsCollName}
-use Rattle.row_format.specs.Prelude.{coll_key, onode_key, header_key, Place, own, Row, onode, omap_header, omap_pair, row_key, row_value, FitsRow}
+use Rattle.row_format.specs.Prelude.{coll_key, onode_key, header_key, Place, Row, onode, omap_header, omap_pair, row_key, row_value, FitsRow}
 use Rattle.row_format.specs.Row as format
 use Rattle.row_format.proofs.Prelude.{same_row, under_attribute, under_header, under_pair}
 use Rattle.store_image.specs.Prelude.{HasKey, HasOnode, HasObject, IsInPlace, NoBadRow, IsHole, pages_of, IsShape, AreObjectBytes, ObjectsStand}
-use Rattle.store_image.proofs.Prelude.{in_place, own_of}
+use Rattle.store_image.proofs.Prelude.{in_place}
 use Rattle.plan_drafts.specs.declared.draft.Draft.{Draft}
-use Rattle.plan_drafts.specs.Prelude.{page_unit, Held, is_there, HoldBytes, Layout, HasLayout, ValueKey, attribute, header, pair, value_key, IsValueKey, not_empty, CollDraft, draft_of, Begins}
-use Rattle.plan_drafts.proofs.Reading.{page_stands}
+use Rattle.plan_drafts.specs.Prelude.{Held, is_there, HoldBytes, Layout, HasLayout, or_empty, ValueKey, attribute, header, pair, value_key, IsValueKey, not_empty, CollDraft, draft_of, Begins}
 use Rattle.object_rows.proofs.GoodPages.{good_page}
 use Rattle.plan_proofs.proofs.Matches.{value_of, Matches}
 use Rattle.plan_proofs.proofs.Reached.{SameSize, IsObjectReached, IsReached}
@@ -181,17 +180,18 @@ module _ (s : Super) (rows : Rows) (good : NoBadRow s rows) (c : List ℕ) (coll
   -- ---- bytes
 
   pub holds_first : (at : ℕ → List ℕ) (held : Held) (objects : Objects) → ObjectsStand (width_of s) at rows objects → (o : List ℕ) (x : Draft) (b : Object)
-      → IsName o → d.layout o ≡ Some x → object_under objects c o ≡ Some b → HoldBytes at held x b.bytes
+      → IsName o → d.layout o ≡ Some x → object_under objects c o ≡ Some b → HoldBytes d.on at held x b.bytes
   holds_first at held objects stand o x b name is there =
       let of = of_layout o x name is in
       let has = has_layout o of.0 name of.1 in
-      subst (λ z. HoldBytes at held z b.bytes) (sym of.2) (held_in of.0 has (stand.bytes c o b there))
+      subst (λ z. HoldBytes d.on at held z b.bytes) (sym of.2) (held_in of.0 of.1 has (stand.bytes c o b there))
     where
-      held_in : (l : Layout) → HasLayout (width_of s) rows c o (Some l) → AreObjectBytes (width_of s) at rows c o b.bytes
-          → HoldBytes at held (draft_of l) b.bytes
-      held_in l has all = record {
+      held_in : (l : Layout) → layouts o ≡ Some l → HasLayout (width_of s) rows c o (Some l) → AreObjectBytes (width_of s) at rows c o b.bytes
+          → HoldBytes d.on at held (draft_of l) b.bytes
+      held_in l of has all = record {
         kept = λ page place is none.
-            let seen = all.mapped page (page_unit place) (record { place = place; at = (has.1 page place).0 is; stands = page_stands rows place }) in
+            let stands = begins.stand o page place name (ap (λ (z : Option Layout). map.get (or_empty z).pages page) of ∙ is) in
+            let seen = all.mapped page (d.on place) (record { place = place; at = (has.1 page place).0 is; stands = stands }) in
             (sym seen.seen, seen.kept);
         put = λ page taking is. nothing page taking is;
         holes = λ page none. all.holes page (hole page none);
@@ -199,5 +199,5 @@ module _ (s : Super) (rows : Rows) (good : NoBadRow s rows) (c : List ℕ) (coll
         where
           hole : (page : ℕ) → is_there (draft_of l) page ≡ false → IsHole (width_of s) rows c o page
           hole page none on is =
-              let found = (has.1 page (own on.unit on.csum)).1 (own_of (width_of s) rows c o page on is) in
+              let found = (has.1 page is.place).1 is.at in
               let t = sym (ap (λ (z : Option Place). is_some z || map.contains_key (draft_of l).puts page) found) ∙ none in cc

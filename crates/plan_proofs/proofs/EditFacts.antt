@@ -40,8 +40,8 @@ the_length_law = length_after
 
 pub the_byte_laws : ByteLaws
 the_byte_laws = record {
-  bytes = λ at held op old read n d fits short sized hold below alone were.
-      operation_holds at held op old read n d fits short sized hold (record { below = below; alone = alone }) were;
+  bytes = λ on at held op old read n d fits short sized hold below alone were.
+      operation_holds on at held op old read n d fits short sized hold (record { below = below; alone = alone }) were;
   whole = whole_then;
   others = others_then;
 }

@@ -7,10 +7,13 @@ use Rattle.meta_rows.specs.declared.row_op.RowOp.{RowOp}
 use Rattle.meta_rows.proofs.BatchLemmas.{only_its_own}
 use Rattle.meta_rows.proofs.RowLemmas.{get-rows_after_other}
 use Rattle.unit_fields.specs.declared.width.Width.{Width}
-use Rattle.row_format.specs.Prelude.{coll_key, onode_key, shard_key, Place}
-use Rattle.store_image.specs.Prelude.{IsPageAt}
+use Rattle.meta_log.specs.declared.slot.Super.{Super}
+use Rattle.meta_log.specs.Prelude.{width_of}
+use Rattle.row_format.specs.Prelude.{coll_key, onode_key, shard_key, Place, own, slot}
+use Rattle.store_image.specs.Prelude.{IsPageAt, PageUnit, StandsOn, NoBadRow}
 use Rattle.blob_map.specs.Prelude.{PageMap}
 use Rattle.plan_drafts.specs.Prelude.{Held, KeysAscend, Changes, IsDifference, Layout, HasLayout, or_empty, GetsShards, stay, cut, GetsLayout, ValueKey, attribute, header, pair, value_key, CollDraft, Begins, IsKeyOfColl, GetsDraft, laid_at, IsKeyIn}
+use Rattle.plan_proofs.proofs.NoSlots.{IsOwn, layout_own}
 use Rattle.plan_proofs.proofs.Difference.{same_unnamed}
 
 -- ---- keys
@@ -74,13 +77,20 @@ module _ (c : List ℕ) (rows other : Rows) (agree : (key : List ℕ) → IsKeyI
       λ page place. (λ found. page_there page place ((has.1 page place).0 found), λ is. (has.1 page place).1 (page_back page place is)),
     )
 
-  pub begins_there : (w : Width) (layouts : List ℕ → Option Layout) (d : CollDraft) → Begins w rows c layouts d → Begins w other c layouts d
-  begins_there w layouts d begins = record {
+  own_there : (w : Width) (place : Place) (on : PageUnit) → IsOwn place → StandsOn w rows place on → StandsOn w other place on
+  own_there w (own unit csum) on its stands = stands
+  own_there w (slot sbid index) on its stands = absurd its
+
+  pub begins_there : (s : Super) → NoBadRow s rows → (layouts : List ℕ → Option Layout) (d : CollDraft) → Begins (width_of s) rows c layouts d
+      → Begins (width_of s) other c layouts d
+  begins_there s good layouts d begins = record {
     there = begins.there ∙ ap is_some (sym (agree (coll_key c) (inl refl)));
-    has = λ o name. layout_there w o (layouts o) (begins.has o name);
+    has = λ o name. layout_there (width_of s) o (layouts o) (begins.has o name);
     drafts = begins.drafts;
     values = λ o k name named. begins.values o k name named ∙ sym (agree (value_key c o k) (value_key_in c o k));
     none_taken = begins.none_taken;
+    stand = λ o page place name is. own_there (width_of s) place (d.on place)
+        (layout_own s rows good c o (layouts o) (begins.has o name) page place is) (begins.stand o page place name is);
   }
 
   module _ (ops : List RowOp) (order : KeysAscend ops) (changes : AllByRecursion (Changes rows) ops) where

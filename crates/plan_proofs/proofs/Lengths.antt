@@ -2,14 +2,14 @@
 use Rattle.std.proofs.Common.{◌≡◌, inl, inr, ℕ, ◌+◌, ◌*◌, ◌<◌, ◌≤◌, true, List, [], ◌∷◌, ◌++◌, length, Option, Some, ap, arith, length-append}
 use Rattle.std.specs.Prelude.{nat_le}
 use Rattle.std.specs.List.{flat_map, AllByRecursion}
-use Rattle.std.specs.Int.{w16, w32, to_le_bytes, to_be_bytes}
+use Rattle.std.specs.Int.{w16, w32, w64, to_le_bytes, to_be_bytes}
 use Rattle.std.proofs.lemmas.Bool.Decides.{nat_tests}
 use Rattle.meta_rows.specs.Prelude.{IsKey}
 use Rattle.object_model.specs.Prelude.{object_limit}
 use Rattle.unit_fields.specs.Prelude.{IsName, IsCollName, bytes_of}
 use Rattle.unit_fields.specs.declared.width.Width.{Width}
 use Rattle.unit_fields.specs.declared.width.Width.TheVariants.{FourBytes}
-use Rattle.row_format.specs.Prelude.{object_key, coll_key, onode_key, shard_key, Extent, Body, private, page_count, page_end, body_bytes, extent_bytes, FitsBody, FitsExtent, ExtentsAscend, csum_bytes}
+use Rattle.row_format.specs.Prelude.{object_key, coll_key, onode_key, shard_key, Extent, Body, private, shared, page_count, page_end, body_bytes, extent_bytes, FitsBody, FitsExtent, ExtentsAscend, csum_bytes}
 use Rattle.row_format.proofs.Prelude.{length-csums}
 use Rattle.store_image.specs.Prelude.{pages_of}
 use Rattle.row_facts.proofs.Lengths.{length-coll}
@@ -24,15 +24,16 @@ use Rattle.plan_drafts.specs.Prelude.{ValueKey, attribute, header, pair, value_k
 bytes_most : (w : Width) (n : ℕ) → bytes_of w n ≤ 4 * n
 bytes_most FourBytes n = omega arith
 
-length-body : (w : Width) (body : Body) → length (body_bytes w body) ≤ 5 + 4 * page_count body
+length-body : (w : Width) (body : Body) → length (body_bytes w body) ≤ 11 + 4 * page_count body
 length-body w (private unit csums) = omega (
   arith,
   length-append (to_le_bytes w32 unit) (flat_map (csum_bytes w) csums),
   length-csums w csums,
   bytes_most w (length csums),
 )
+length-body w (shared sbid first count) = omega (arith, length-append (to_le_bytes w64 sbid) (to_le_bytes w16 first))
 
-length-extent : (w : Width) (e : Extent) → length (extent_bytes w e) ≤ 11 + 4 * page_count e.body
+length-extent : (w : Width) (e : Extent) → length (extent_bytes w e) ≤ 17 + 4 * page_count e.body
 length-extent w e = omega (
   arith,
   length-append (to_le_bytes w32 e.first) (to_le_bytes w16 (page_count e.body) ++ body_bytes w e.body),
@@ -42,6 +43,7 @@ length-extent w e = omega (
 
 pub has_page : (w : Width) (body : Body) → FitsBody w body → 0 < page_count body
 has_page w (private unit csums) fits = fits.1
+has_page w (shared sbid first count) fits = fits.2
 
 -- a shard within the bound
 alone_short : (w : Width) (e : Extent) → FitsExtent w e → page_count e.body ≤ 256 → length (shard_bytes w (e ∷ [])) ≤ 1200
@@ -49,6 +51,7 @@ alone_short w e fits few = omega (arith, length-append (extent_bytes w e) [], le
 
 few_pages : (w : Width) (body : Body) → FitsBody w body → page_count body ≤ 256
 few_pages w (private unit csums) fits = fits.2
+few_pages w (shared sbid first count) fits = fits.3
 
 within_limit : (n : ℕ) → nat_le n 1200 ≡ true → n ≤ 1200
 within_limit n is = grind (arith, nat_tests)

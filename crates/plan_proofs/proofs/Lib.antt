@@ -7,10 +7,11 @@ pub mod Reached
 pub mod Matches
 pub mod Lengths
 pub mod FewShards
-pub mod Maps
+pub mod NoSlots
 pub mod LayoutOf
 pub mod Difference
 pub mod AfterObject
+pub mod Maps
 pub mod Laid
 pub mod DraftRows
 pub mod DraftOwners

@@ -1,24 +1,24 @@
 -- The extents of a layout whose pages are good can replace an object's.
-use Rattle.std.proofs.Common.{◌≡◌, ℕ, ◌+◌, ◌≤◌, ◌^◌, Option, Some, None, refl, sym, subst, arith}
+use Rattle.std.proofs.Common.{◌≡◌, ℕ, ◌≤◌, ◌^◌, Option, Some, None, refl, sym, subst, ◌∙◌, arith}
 use Rattle.std.specs.Prelude.{unwrap_or}
 use Rattle.std.specs.List.{AllByRecursion}
 use Rattle.std.specs.FinMap as finite
 use Rattle.meta_log.specs.declared.slot.Super.{Super}
 use Rattle.meta_log.specs.Prelude.{width_of, data_unit}
 use Rattle.object_model.specs.Prelude.{object_limit}
-use Rattle.row_format.specs.Prelude.{Body, private, page_count, page_end, Place, own, place_of, FitsExtent, ExtentsAscend}
+use Rattle.row_format.specs.Prelude.{page_end, Place, own, slot, place_of, FitsExtent, ExtentsAscend}
 use Rattle.store_image.specs.Prelude.{pages_of, IsOnData}
-use Rattle.blob_map.specs.Prelude.{FitsPlace, StandsWithin, first_unit}
+use Rattle.blob_map.specs.Prelude.{FitsPlace, StandsWithin}
 use Rattle.blob_map.proofs.Forms.{extents_places, extents_ascend, extents_fits, extents_within, extents_on}
 use Rattle.plan_drafts.specs.Prelude.{Layout, or_empty, size_at, extents_at}
-use Rattle.object_rows.proofs.GoodPages.{CsumFits, all_map, IsGoodPage}
+use Rattle.object_rows.proofs.GoodPages.{CsumFits, IsGoodPage}
+use Rattle.plan_proofs.proofs.AfterObject.{own_on_data}
+use Rattle.plan_proofs.proofs.NoSlots.{IsOwn}
 
-on_data_body : (s : Super) (body : Body) → (data_unit s ≤ first_unit body) × (first_unit body + page_count body ≤ s.units) → IsOnData s body
-on_data_body s (private unit csums) is = is
-
-fits_place : (s : Super) → s.units ≤ 2 ^ 32 → (place : Place) → StandsWithin (data_unit s) s.units place → CsumFits (width_of s) place
+fits_place : (s : Super) → s.units ≤ 2 ^ 32 → (place : Place) → IsOwn place → StandsWithin (data_unit s) s.units place → CsumFits (width_of s) place
     → FitsPlace (width_of s) place
-fits_place s most (own unit csum) on fits = (omega (arith, on.1, most), fits)
+fits_place s most (own unit csum) its on fits = (omega (arith, on.1, most), fits)
+fits_place s most (slot sbid index) its on fits = absurd its
 
 -- an object that is missing has no bytes
 pub size_is : (y : Option Layout) → unwrap_or (size_at y) 0 ≡ (or_empty y).size
@@ -29,7 +29,8 @@ pub places_at : (y : Option Layout) (page : ℕ) → place_of (extents_at y) pag
 places_at y page = extents_places (or_empty y).pages page
 
 module _ (s : Super) (y : Option Layout) (most : (or_empty y).size ≤ object_limit) (units_most : s.units ≤ 2 ^ 32)
-    (good : (page : ℕ) (place : Place) → finite.get (or_empty y).pages page ≡ Some place → IsGoodPage s (or_empty y).size page place) where
+    (good : (page : ℕ) (place : Place) → finite.get (or_empty y).pages page ≡ Some place → IsGoodPage s (or_empty y).size page place)
+    (its : (page : ℕ) (place : Place) → finite.get (or_empty y).pages page ≡ Some place → IsOwn place) where
   pages_few : pages_of (or_empty y).size ≤ 2 ^ 32
   pages_few = omega (arith, most)
 
@@ -38,7 +39,7 @@ module _ (s : Super) (y : Option Layout) (most : (or_empty y).size ≤ object_li
 
   pub layout_fit : AllByRecursion (FitsExtent (width_of s)) (extents_at y)
   layout_fit = extents_fits (or_empty y).pages (width_of s) (λ page place is. let g = good page place is in
-      record { page = omega (arith, g.within, pages_few); place = fits_place s units_most place g.on_data g.csum })
+      record { page = omega (arith, g.within, pages_few); place = fits_place s units_most place (its page place is) g.on_data g.csum })
 
   pub layout_ascend : ExtentsAscend (extents_at y)
   layout_ascend = extents_ascend (or_empty y).pages
@@ -48,6 +49,6 @@ module _ (s : Super) (y : Option Layout) (most : (or_empty y).size ≤ object_li
       (extents_within (or_empty y).pages (pages_of (or_empty y).size) (λ page place is. (good page place is).within))
 
   pub layout_on_data : AllByRecursion (λ e. IsOnData s e.body) (extents_at y)
-  layout_on_data = all_map (λ e. (data_unit s ≤ first_unit e.body) × (first_unit e.body + page_count e.body ≤ s.units)) (λ e. IsOnData s e.body)
-      (λ e is. on_data_body s e.body is) (extents_at y)
+  layout_on_data = own_on_data s (extents_at y) layout_ascend layout_fit
+      (λ page place is. its page place (sym (places_at y page) ∙ is))
       (extents_on (or_empty y).pages (data_unit s) s.units (λ page place is. (good page place is).on_data))

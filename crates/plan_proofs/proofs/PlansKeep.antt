@@ -18,7 +18,8 @@ use Rattle.object_model.specs.declared.op.Op.{Op}
 use Rattle.object_model.specs.Prelude.{Objects, Change, names_of, transaction_effect, with_collection, is_too_large, payload_of, payload_limit}
 use Rattle.object_model.proofs.Names.{is_own}
 use Rattle.unit_fields.specs.Prelude.{Ascends}
-use Rattle.store_image.specs.Prelude.{HasPage, NoBadRow, page_of, Owns, IsDataUnit, IsOwned, IsMarked, IsExactAs, IsShape, ObjectsStand}
+use Rattle.row_format.specs.Prelude.{Place}
+use Rattle.store_image.specs.Prelude.{HasPage, PageUnit, StandsOn, NoBadRow, page_of, Owns, IsDataUnit, IsOwned, IsMarked, IsExactAs, IsShape, ObjectsStand}
 use Rattle.bitmap_freelist.proofs.Alike.{alike_shape, alike_stand}
 use Rattle.bitmap_freelist.proofs.Records.{flips_fit, flips_size, flips_count}
 use Rattle.unit_allocator.specs.Prelude.{Space, free_units}
@@ -30,7 +31,7 @@ use Rattle.plan_rows.specs.declared.plan.Plan.{Plan}
 use Rattle.plan_drafts.specs.Prelude.{Held, CollDraft, with_op, with_ops, places_of, held_by, none_held, Begins, most_units_of, most_units, Stands, HoldsFresh, StandsOnce, fresh_units, Plans, AreFreeOver, IsKeyOfColl, IsKeyIn, IsKeyOfSome, IsOwnedBy, IsGood, Suits, OwnsItsUnits, AreWhole, PlanKeeps, HoldsRead, PlanMakes, PlanTakes, PlansKeep, units_on, AsksAreFew}
 use Rattle.plan_proofs.proofs.DraftBits.{AreTurned, alike, last_was, last_owned, last_left, last_taken, last_gone, last_good, last_exact}
 use Rattle.page_edits.specs.Takings.{WereRead}
-use Rattle.plan_proofs.proofs.DraftBytes.{ByteLaws, AllWhole, all_hold, all_whole}
+use Rattle.plan_proofs.proofs.DraftBytes.{ByteLaws, AllWhole, on_same, all_hold, all_whole}
 use Rattle.plan_proofs.proofs.DraftRows.{AreDrafted}
 use Rattle.plan_proofs.proofs.DraftStand.{shape_after, stand_after}
 use Rattle.plan_proofs.proofs.DraftStart.{of_layout, reached_first, matches_first, holds_first}
@@ -227,7 +228,7 @@ module _ (laws : EditLaws) (lengths : LengthLaw) (bytes : ByteLaws) (counts : Co
     agree key its = suits.agree.own key (named_in key its)
 
     begins : Begins (width_of s) rows c p.layouts p.start
-    begins = begins_there c view rows agree (width_of s) p.layouts p.start p.begins
+    begins = begins_there c view rows agree s good.good p.layouts p.start p.begins
 
     unmarked : (v : ℕ) → Contains (fresh_units plan) v → ¬ IsMarked rows v
     unmarked = all_in (λ u. ¬ IsMarked rows u) (fresh_units plan) suits.unmarked
@@ -242,6 +243,8 @@ module _ (laws : EditLaws) (lengths : LengthLaw) (bytes : ByteLaws) (counts : Co
       units_most = omega (arith, free.limits.units_most);
       coll = p.named;
       has = begins.has;
+      stand = λ o page place name is. subst (λ (on : Place → PageUnit). StandsOn (width_of s) rows place (on place)) (sym (on_same change.ops p.start))
+          (begins.stand o page place name is);
       reached = reach;
       gets = gets_there c view rows agree difference p.makes.in_order p.makes.changes (width_of s) p.layouts units held y p.makes.gets;
       on_data = on_data;

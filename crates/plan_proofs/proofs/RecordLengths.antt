@@ -30,9 +30,10 @@ use Rattle.plan_drafts.specs.Prelude.{Held, Changes, KeysAscend, Layout, HasLayo
 use Rattle.extent_shards.specs.Prelude.{shards_of, shard_limit, first_of}
 use Rattle.extent_shards.proofs.Openings.{IsOneOf, at_is_one}
 use Rattle.plan_proofs.proofs.Difference.{SaysAfter, said_after, less_apart}
-use Rattle.plan_proofs.proofs.DraftRows.{AreDrafted, now_most, now_good}
+use Rattle.plan_proofs.proofs.DraftRows.{AreDrafted, now_most, now_good, now_own}
 use Rattle.object_rows.proofs.GoodPages.{IsGoodPage}
 use Rattle.plan_proofs.proofs.Lengths.{few_shards}
+use Rattle.plan_proofs.proofs.NoSlots.{IsOwn}
 use Rattle.plan_proofs.proofs.Maps.{layout_most, layout_fit, layout_ascend, layout_within}
 use Rattle.plan_proofs.proofs.Fits.{key_fits, cut_at, value_is_short}
 use Rattle.plan_proofs.proofs.Names.{same_is}
@@ -300,8 +301,8 @@ module _ (s : Super) (rows : Rows) (ops : List RowOp) (c : List ℕ) (layouts : 
     arith,
     length-map (shards_of (width_of s) (Some shard_limit) (extents_at (laid_at units held y o))) first_of,
     few_shards (width_of s) (Some shard_limit) (extents_at (laid_at units held y o)) (unwrap_or (size_at (laid_at units held y o)) 0)
-        (layout_most s (laid_at units held y o) most a.units_most good) (layout_ascend s (laid_at units held y o) most a.units_most good)
-        (layout_within s (laid_at units held y o) most a.units_most good) (layout_fit s (laid_at units held y o) most a.units_most good),
+        (layout_most s (laid_at units held y o) most a.units_most good its) (layout_ascend s (laid_at units held y o) most a.units_most good its)
+        (layout_within s (laid_at units held y o) most a.units_most good its) (layout_fit s (laid_at units held y o) most a.units_most good its),
   ))
     where
       most : (or_empty (laid_at units held y o)).size ≤ object_limit
@@ -310,6 +311,9 @@ module _ (s : Super) (rows : Rows) (ops : List RowOp) (c : List ℕ) (layouts : 
       good : (page : ℕ) (place : Place) → finite.get (or_empty (laid_at units held y o)).pages page ≡ Some place
           → IsGoodPage s (or_empty (laid_at units held y o)).size page place
       good page place is = now_good s rows (rows_after rows ops) c layouts units held y a o name page place is
+
+      its : (page : ℕ) (place : Place) → finite.get (or_empty (laid_at units held y o)).pages page ≡ Some place → IsOwn place
+      its page place is = now_own s rows (rows_after rows ops) c layouts units held y a o name page place is
 
   is_opening : (shards : List (List Extent)) (es : List Extent) → IsOneOf shards es → (o : List ℕ)
       → IsIn (shard_key c o (first_of es)) (map (shard_key c o) (map first_of shards))

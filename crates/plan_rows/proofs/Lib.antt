@@ -3,3 +3,4 @@ pub mod Apart
 pub mod Agreeing
 pub mod OnData
 pub mod Carried
+pub mod PlaceUnits

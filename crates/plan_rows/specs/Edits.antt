@@ -1,11 +1,16 @@
 -- Ranges of an object's bytes over its pages, and the edits of them that operations are.
-use Rattle.std.specs.Prelude.{ℕ, ◌+◌, ◌-◌, ◌*◌, ◌/◌, ◌≤◌, ◌==◌, ◌&&◌, nat_le, nat_lt, max, Bool, true, false, List, [], ◌∷◌, length, take, drop, if◌then◌else◌}
+use Rattle.std.specs.Prelude.{ℕ, ◌+◌, ◌-◌, ◌*◌, ◌/◌, ◌≤◌, ◌==◌, ◌&&◌, nat_le, nat_lt, max, Bool, true, false, List, [], ◌∷◌, length, take, drop, Option, Some, None, slice_get, if◌then◌else◌}
+use Rattle.std.specs.Int.{w32, from_le_bytes}
 use Rattle.std.specs.List.{range_with_len}
+use Rattle.std.specs.Option.{option_map_or}
+use Rattle.std.specs.FinMap as finite
 use Rattle.byte_maps.specs.Units.{zeros}
 use Rattle.object_model.specs.declared.op.Op.{Op}
 use Rattle.object_model.specs.declared.op.Op.TheVariants.{Write, Zero, Truncate}
 use Rattle.object_model.specs.Prelude.{object_limit, overwritten, resized}
-use Rattle.row_format.specs.Prelude.{Place, own}
+use Rattle.unit_fields.specs.declared.width.Width.{Width}
+use Rattle.meta_rows.specs.Prelude.{Rows}
+use Rattle.row_format.specs.Prelude.{Place, own, slot, Slot, slots_read, shared_key}
 use Rattle.store_image.specs.Prelude.{PageUnit}
 use Rattle.plan_rows.specs.declared.plan.ReadUnit.{ReadUnit}
 
@@ -59,18 +64,27 @@ is_cleared e page = e.clears && covers_whole e.off (end_of e) page
 
 -- ---- units
 
+-- where a slot of a blob is, by the value of the blob's row: its unit, and the checksum that is kept for it (nothing of a blob without a row)
+abbrev pub slot_unit : Width → Option (List ℕ) → ℕ → PageUnit
+slot_unit w None index = record { unit = 0; csum = 0 }
+slot_unit w (Some value) index = record {
+  unit = from_le_bytes w32 value + index;
+  csum = option_map_or (λ (x : Slot). x.csum) (slice_get (slots_read w value) index) 0;
+}
+
 -- the unit on which a page at this place stands, and the checksum that is kept for it
-abbrev pub page_unit : Place → PageUnit
-page_unit (own unit csum) = record { unit = unit; csum = csum }
+abbrev pub page_unit : Width → Rows → Place → PageUnit
+page_unit w rows (own unit csum) = record { unit = unit; csum = csum }
+page_unit w rows (slot sbid index) = slot_unit w (finite.get rows (shared_key sbid)) index
 
 -- the old bytes that were read of a unit, or zeros where it wasn't
 abbrev pub bytes_read : List ReadUnit → ℕ → List ℕ
 bytes_read [] unit = zeros 4096
 bytes_read (r ∷ rs) unit = if r.unit == unit then r.bytes else bytes_read rs unit
 
--- the old bytes of a place
-abbrev pub old_bytes_in : List ReadUnit → Place → List ℕ
-old_bytes_in read place = bytes_read read (page_unit place).unit
+-- the old bytes of a place, where places stand on units so
+abbrev pub old_bytes_in : (Place → PageUnit) → List ReadUnit → Place → List ℕ
+old_bytes_in on read place = bytes_read read (on place).unit
 
 -- ---- bytes
 

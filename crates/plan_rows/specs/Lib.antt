@@ -7,3 +7,4 @@ pub mod Asks
 pub mod Names
 pub mod Keeps
 pub mod Prelude
+pub mod Stores

@@ -33,6 +33,7 @@ module _ (s : Super) (rows : Rows) (Before : List ℕ → Type 0) where
   object_there : (last : Option Row) (c o : List ℕ) → IsLastOf last → IsPlaced last → IsOfObject last c o → HasObject rows c o
   object_there None c o is placed same = absurd same
   object_there (Some (read.Collection d)) c o is placed same = absurd same
+  object_there (Some (read.Blob sbid first slots)) c o is placed same = absurd same
   object_there (Some (read.Bitmap r bits)) c o is placed same = absurd same
   object_there (Some (read.Onode d u size)) c o is placed same =
       let place : IsInPlace s rows (onode d u size) = placed [] in
@@ -46,6 +47,7 @@ module _ (s : Super) (rows : Rows) (Before : List ℕ → Type 0) where
   onode_there : (last : Option Row) (c o : List ℕ) (size : ℕ) → IsLastOf last → IsOnodeOf last c o size → HasOnode rows c o size
   onode_there None c o size is same = absurd same
   onode_there (Some (read.Collection d)) c o size is same = absurd same
+  onode_there (Some (read.Blob sbid first slots)) c o size is same = absurd same
   onode_there (Some (read.Bitmap r bits)) c o size is same = absurd same
   onode_there (Some (read.Shard d u first es)) c o size is same = absurd same
   onode_there (Some (read.Attribute d u name)) c o size is same = absurd same
@@ -87,6 +89,7 @@ within_size rows c o size es has = (
 of_onode : (last : Option Row) (c o : List ℕ) (size : ℕ) → IsOnodeOf last c o size → IsOfObject last c o
 of_onode None c o size is = absurd is
 of_onode (Some (read.Collection d)) c o size is = absurd is
+of_onode (Some (read.Blob sbid first slots)) c o size is = absurd is
 of_onode (Some (read.Bitmap r bits)) c o size is = absurd is
 of_onode (Some (read.Shard d u first es)) c o size is = absurd is
 of_onode (Some (read.Attribute d u name)) c o size is = absurd is

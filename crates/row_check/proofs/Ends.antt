@@ -8,7 +8,7 @@ use Rattle.row_reading.specs.declared.row.Row.{Row}
 use Rattle.row_reading.specs.declared.row.Row.TheVariants as read
 use Rattle.row_reading.specs.Reading.{format_row}
 use Rattle.unit_fields.specs.declared.width.Width.{Width}
-use Rattle.row_format.specs.Prelude.{Body, private, page_count, FitsExtent, FitsBody}
+use Rattle.row_format.specs.Prelude.{Body, private, shared, page_count, FitsExtent, FitsBody}
 use Rattle.row_check.specs.declared.passed.Passed.{Passed}
 use Rattle.row_check.specs.Bad.{IsShardOf, IsEndOf, EndsWith, HasLowPages}
 
@@ -41,6 +41,7 @@ ends_with_other p c o first es end other is = λ page. (λ le. (λ own. absurd (
 -- a row that fits its fields
 low_body : (w : Width) (first : ℕ) (body : Body) → first < 2 ^ 32 → FitsBody w body → first + page_count body < 2 ^ 33
 low_body w first (private unit csums) low fits = omega (arith, low, fits.2)
+low_body w first (shared sbid index count) low fits = omega (arith, low, fits.3)
 
 low_extents : (w : Width) (es : List Extent) → AllByRecursion (FitsExtent w) es → AllByRecursion (λ e. page_end e < 2 ^ 33) es
 low_extents w [] fit = tt
@@ -53,4 +54,5 @@ low_pages w (read.Onode d u size) value fits = tt
 low_pages w (read.Attribute d u n) value fits = tt
 low_pages w (read.OmapHeader d u) value fits = tt
 low_pages w (read.OmapPair d u k) value fits = tt
+low_pages w (read.Blob sbid first slots) value fits = tt
 low_pages w (read.Bitmap r bits) value fits = tt

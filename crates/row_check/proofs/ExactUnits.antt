@@ -5,7 +5,8 @@ use Rattle.std.proofs.lemmas.Bool.{cases_lt, cases_Bool}
 use Rattle.std.proofs.lemmas.List.{get_or_past}
 use Rattle.unit_fields.specs.declared.width.Width.{Width}
 use Rattle.meta_rows.specs.Prelude.{Rows}
-use Rattle.store_image.specs.Prelude.{HasSoleOwner, IsOwned, IsExactAs, IsInexact, IsLeastInexact}
+use Rattle.row_format.specs.Prelude.{Slot}
+use Rattle.store_image.specs.Prelude.{HasSlot, HasSoleOwner, IsOwned, IsExactAs, IsInexact, IsLeastInexact}
 use Rattle.bitmap_freelist.specs.Bitmap as freelist
 use Rattle.bitmap_freelist.specs.Bitmap.{Units}
 use Rattle.row_check.specs.Marks.{Marks}
@@ -37,6 +38,7 @@ pub record AreUnitsOf (w : Width) (rows : Rows) (owned shared marked : Units) (u
   pub shared_are : AreShared w rows shared
   pub marked_are : freelist.AreMarked rows marked
   pub below : (unit : ℕ) → IsOwned w rows unit → unit < units
+  pub no_slot : (sbid index at : ℕ) (is : Slot) → HasSlot w rows sbid index at is → ⊥
   pub most : units ≤ 1048576
 
 module _ (w : Width) (rows : Rows) (owned shared marked : Units) (units : ℕ) (are : AreUnitsOf w rows owned shared marked units) where
@@ -48,13 +50,14 @@ module _ (w : Width) (rows : Rows) (owned shared marked : Units) (units : ℕ) (
     | inl outside ↦
         let own = (are.owned_are unit).0 outside.0 in
         inl (own, λ marked. outside.1 ((are.marked_are unit).1 (small unit own, marked)))
-    | inr has ↦ inr ((are.shared_are unit).0 has)
+    | inr has ↦ inr (inl ((are.shared_are unit).0 has))
   ]
 
   inexact_wrong : (unit : ℕ) → IsInexact w rows unit → IsWrong owned shared marked unit
   inexact_wrong unit is = elim is [
     | inl unmarked ↦ inl ((are.owned_are unit).1 unmarked.0, λ has. unmarked.1 ((are.marked_are unit).0 has).1)
-    | inr two ↦ inr ((are.shared_are unit).1 two)
+    | inr (inl two) ↦ inr ((are.shared_are unit).1 two)
+    | inr (inr wrong) ↦ absurd (are.no_slot wrong.sbid wrong.index unit wrong.is wrong.has_slot)
   ]
 
   least_inexact : (unit : ℕ) → IsLeastUnit (IsWrong owned shared marked) unit → IsLeastInexact w rows unit
@@ -74,6 +77,7 @@ module _ (w : Width) (rows : Rows) (owned shared marked : Units) (units : ℕ) (
       | inr out ↦ absurd (none unit (inl ((are.owned_are unit).1 own, λ has. cc)))
     ];
     one_owner = λ unit. sole w rows unit (λ two. none unit (inr ((are.shared_are unit).1 two)));
+    counts = λ sbid index unit is has. absurd (are.no_slot sbid index unit is has);
   }
 
   pub found_exact : (found : Option ℕ) → IsLeastOf (IsWrong owned shared marked) found → found ≡ None → IsExactAs w rows rows

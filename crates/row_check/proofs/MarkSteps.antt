@@ -1,117 +1,146 @@
 -- The steps of marking, as the loops see them.
-use Rattle.std.proofs.Common.{◌≡◌, ℕ, zero, suc, ◌+◌, ◌<◌, ◌≤◌, List, [], ◌∷◌, ◌++◌, length, drop, refl, sym, ap, subst, ◌∙◌, arith}
+use Rattle.std.proofs.Common.{◌≡◌, ◌≢◌, ℕ, zero, suc, ◌+◌, ◌<◌, ◌≤◌, List, [], ◌∷◌, ◌++◌, length, drop, refl, sym, ap, subst, ◌∙◌, arith}
 use Rattle.std.specs.List.{flat_map, AllByRecursion}
 use Rattle.std.proofs.lemmas.List.{length-append, length-set, drop_at}
 use Rattle.std.proofs.lemmas.List.Concat.{flat_map-cons}
 use Rattle.unit_fields.specs.Prelude.{ReadsBytes, bytes_of}
 use Rattle.unit_fields.specs.declared.width.Width.{Width}
-use Rattle.row_format.specs.Prelude.{Body, private, Extent, extent_bytes, FitsExtent, csum_bytes}
+use Rattle.row_format.specs.Prelude.{Body, private, shared, Extent, extent_bytes, FitsExtent, csum_bytes}
 use Rattle.onode_codec.specs.declared.extent.Head.{Head}
-use Rattle.onode_codec.specs.Reading.{BeginsWithNoExtent, ReadsHead, SpellExtents}
+use Rattle.onode_codec.specs.declared.extent.Start.{Start}
+use Rattle.onode_codec.specs.declared.extent.Start.TheVariants.{Unit as OnUnit, Slot as OnSlot}
+use Rattle.onode_codec.specs.Reading.{ReadsHead, SpellExtents}
 use Rattle.onode_codec.proofs.Again.{same_extents}
-use Rattle.onode_codec.proofs.ExtentReading.{head_front, length-csums}
-use Rattle.row_check.specs.Marks.{Marks, run_marked, extents_marked, AllEndBy, SpellExtentsBelow}
+use Rattle.onode_codec.proofs.ExtentReading.{head_front, length-csums, some_bytes, spelled_behind}
+use Rattle.row_check.specs.Marks.{Marks, run_marked, body_marked, extents_marked, EndsBy, AllEndBy, SpellExtentsBelow, BeginsBelow, MarksExtent}
 
 pub length-run : (m : Marks) (first n : ℕ) → length (run_marked m first n).owned ≡ length m.owned
 length-run m first zero = refl
 length-run m first (suc n) = length-set _ (first + n) _ ∙ length-run m first n
 
--- the head of the first of these extents was read
-record IsFirst (w : Width) (mid : List ℕ) (h : Head) (left : List Extent) : Type 0 where
-  pub csums : List ℕ
-  pub count_is : h.count ≡ length csums
-  pub rest : List Extent
-  pub is : left ≡ record { first = h.first; body = private h.unit csums } ∷ rest
-  pub behind : mid ≡ flat_map (csum_bytes w) csums ++ flat_map (extent_bytes w) rest
-  pub fit : AllByRecursion (FitsExtent w) rest
+length-body : (m : Marks) (b : Body) → length (body_marked m b).owned ≡ length m.owned
+length-body m (private unit csums) = length-run m unit (length csums)
+length-body m (shared sbid first count) = refl
 
-first_is : (w : Width) (fields mid : List ℕ) (h : Head) (left : List Extent) → SpellExtents w fields left → ReadsHead fields mid h
-    → IsFirst w mid h left
-first_is w fields mid h [] spelled read = absurd (omega (arith, ap length (sym spelled.spelled ∙ read.spelled)))
-first_is w fields mid h (e ∷ es) spelled read = by e.first e.body spelled.fit.0 (spelled.spelled ∙ flat_map-cons (extent_bytes w) e es)
-  where
-    by : (first : ℕ) (b : Body) → FitsExtent w (record { first = first; body = b })
-        → fields ≡ extent_bytes w (record { first = first; body = b }) ++ flat_map (extent_bytes w) es
-        → IsFirst w mid h (record { first = first; body = b } ∷ es)
-    by first (private unit csums) fits is =
-        let at = head_front w fields mid (flat_map (extent_bytes w) es) h first unit csums read fits is in
-        record {
-          csums = csums;
-          count_is = at.count_is;
-          rest = es;
-          is = λ i. record { first = sym at.first_is i; body = private (sym at.unit_is i) csums } ∷ es;
-          behind = at.behind;
-          fit = spelled.fit.1;
-        }
+-- ---- one extent
+
+-- a start on a unit is none on a slot
+apart : (unit sbid index : ℕ) → OnUnit unit ≢ OnSlot sbid index
+apart unit sbid index e = cc
+
+-- of an extent on units there are marks for its pages, and its checksums stand behind its head
+abbrev HasRoom : Width → ℕ → Start → ℕ → List ℕ → Type 0
+HasRoom w units (OnUnit unit) count mid = (unit + count ≤ units) × (bytes_of w count ≤ length mid)
+HasRoom w units (OnSlot sbid index) count mid = Unit {0}
+
+room_by : (w : Width) (units : ℕ) (old mid rest : List ℕ) (h : Head) (first : ℕ) (b : Body) → FitsExtent w (record { first = first; body = b })
+    → EndsBy units b → old ≡ extent_bytes w (record { first = first; body = b }) ++ rest → ReadsHead old mid h → HasRoom w units h.start h.count mid
+room_by w units old mid rest h first (private unit csums) fits below is read =
+    let at = head_front w old mid rest h first (private unit csums) read fits is in
+    let enough : bytes_of w h.count ≤ length mid =
+    omega (arith, ap (bytes_of w) at.count_is, ap length at.behind, length-append (flat_map (csum_bytes w) csums) rest, length-csums w csums) in
+    subst (λ s. HasRoom w units s h.count mid) (sym at.start_is) (omega (arith, at.count_is, below), enough)
+room_by w units old mid rest h first (shared sbid index count) fits below is read =
+    let at = head_front w old mid rest h first (shared sbid index count) read fits is in
+    subst (λ s. HasRoom w units s h.count mid) (sym at.start_is) tt
+
+pub room : (w : Width) (units : ℕ) (old mid : List ℕ) (h : Head) (unit : ℕ) → BeginsBelow w old units → ReadsHead old mid h → h.start ≡ OnUnit unit
+    → HasRoom w units (OnUnit unit) h.count mid
+room w units old mid h unit begins read is =
+    subst (λ s. HasRoom w units s h.count mid) is
+    (room_by w units old mid begins.rest h begins.extent.first begins.extent.body begins.fits begins.below begins.spelled read)
+
+same_unit : (a b : ℕ) → OnUnit a ≡ OnUnit b → a ≡ b
+same_unit a b e = cc
+
+-- behind the checksums of the extent at the front stands what stands behind it
+rest_left : (w : Width) (mid rest new piece : List ℕ) (count : ℕ) (csums : List ℕ) → count ≡ length csums → mid ≡ flat_map (csum_bytes w) csums ++ rest
+    → ReadsBytes (bytes_of w count) mid new piece → new ≡ rest
+rest_left w mid rest new piece count csums count_is behind passed =
+    let size : length (flat_map (csum_bytes w) csums) ≡ bytes_of w count = length-csums w csums ∙ sym (ap (bytes_of w) count_is) in
+    sym (drop_at piece new (bytes_of w count) passed.size) ∙ ap (drop (bytes_of w count)) (sym passed.parts ∙ behind)
+    ∙ drop_at (flat_map (csum_bytes w) csums) rest (bytes_of w count) size
+
+units_by : (w : Width) (old mid rest new piece : List ℕ) (h : Head) (first : ℕ) (b : Body) (unit : ℕ) (m then : Marks)
+    → FitsExtent w (record { first = first; body = b }) → old ≡ extent_bytes w (record { first = first; body = b }) ++ rest
+    → ReadsHead old mid h → h.start ≡ OnUnit unit → ReadsBytes (bytes_of w h.count) mid new piece → then ≡ run_marked m unit h.count
+    → MarksExtent w old new m then
+units_by w old mid rest new piece h first (private at csums) unit m then fits is read start passed then_is =
+    let of = head_front w old mid rest h first (private at csums) read fits is in
+    let left = rest_left w mid rest new piece h.count csums of.count_is of.behind passed in
+    let here : unit ≡ at = same_unit unit at (sym start ∙ of.start_is) in
+    record {
+      extent = record { first = first; body = private at csums };
+      read = record { fits = fits; spelled = is ∙ ap (λ l. extent_bytes w (record { first = first; body = private at csums }) ++ l) (sym left) };
+      marked = then_is ∙ (λ i. run_marked m (here i) (of.count_is i));
+    }
+units_by w old mid rest new piece h first (shared sbid index count) unit m then fits is read start passed then_is =
+    let of = head_front w old mid rest h first (shared sbid index count) read fits is in absurd (apart unit sbid index (sym start ∙ of.start_is))
+
+module _ (w : Width) (units : ℕ) (old mid : List ℕ) (h : Head) (begins : BeginsBelow w old units) (read : ReadsHead old mid h) where
+  pub marks_units : (new piece : List ℕ) (unit : ℕ) (m then : Marks) → h.start ≡ OnUnit unit → ReadsBytes (bytes_of w h.count) mid new piece
+      → then ≡ run_marked m unit h.count → MarksExtent w old new m then
+  marks_units new piece unit m then =
+      λ start passed then_is. units_by w old mid begins.rest new piece h begins.extent.first begins.extent.body unit m then begins.fits begins.spelled
+      read start passed then_is
+
+-- ---- one extent behind the other
 
 -- the extents that bytes spell are marked but for those that are left
 pub record AreMarkedTo (w : Width) (old : Marks) (bytes fields : List ℕ) (m : Marks) : Type 0 where
-  pub all : List Extent
-  pub whole : SpellExtents w bytes all
   pub left : List Extent
   pub spelled : SpellExtents w fields left
   pub below : AllEndBy (length m.owned) left
-  pub marked : extents_marked m left ≡ extents_marked old all
+  pub marked : (es : List Extent) → SpellExtents w bytes es → extents_marked m left ≡ extents_marked old es
 
 pub none_marked : (w : Width) (old : Marks) (bytes fields : List ℕ) → SpellExtentsBelow w bytes (length old.owned) → fields ≡ bytes
     → AreMarkedTo w old bytes fields old
 none_marked w old bytes fields spell is = record {
-  all = spell.extents;
-  whole = spell.spelled;
   left = spell.extents;
   spelled = subst (λ l. SpellExtents w l spell.extents) (sym is) spell.spelled;
   below = spell.below;
-  marked = refl;
+  marked = λ es spelled. ap (extents_marked old) (same_extents w bytes spell.extents es spell.spelled spelled);
 }
 
+begins_with : (w : Width) (bytes : List ℕ) (units : ℕ) (left : List Extent) → SpellExtents w bytes left → AllEndBy units left → bytes ≢ []
+    → BeginsBelow w bytes units
+begins_with w bytes units [] spelled below some = absurd (some spelled.spelled)
+begins_with w bytes units (e ∷ es) spelled below some = record {
+  extent = e;
+  rest = flat_map (extent_bytes w) es;
+  fits = spelled.fit.0;
+  below = below.0;
+  spelled = spelled.spelled ∙ flat_map-cons (extent_bytes w) e es;
+}
+
+pub fewer_left : (w : Width) (fields new : List ℕ) (m then : Marks) → MarksExtent w fields new m then → length new < length fields
+fewer_left w fields new m then marks =
+    omega (arith, ap length marks.read.spelled, length-append (extent_bytes w marks.extent) new, some_bytes w marks.extent [], length-append (extent_bytes w marks.extent) [])
+
 module _ (w : Width) (old : Marks) (bytes fields : List ℕ) (m : Marks) (so_far : AreMarkedTo w old bytes fields m) where
-  module _ (mid : List ℕ) (h : Head) (read : ReadsHead fields mid h) where
-    first : IsFirst w mid h so_far.left
-    first = first_is w fields mid h so_far.left so_far.spelled read
+  pub one_left : fields ≢ [] → BeginsBelow w fields (length m.owned)
+  one_left some = begins_with w fields (length m.owned) so_far.left so_far.spelled so_far.below some
 
-    ends : AllEndBy (length m.owned) (record { first = h.first; body = private h.unit first.csums } ∷ first.rest)
-    ends = subst (AllEndBy (length m.owned)) first.is so_far.below
-
-    pub units_there : h.unit + h.count ≤ length m.owned
-    units_there = let here = ends.0 in omega (arith, here, first.count_is)
-
-    pub csums_there : bytes_of w h.count ≤ length mid
-    csums_there = omega (
-      arith,
-      ap (bytes_of w) first.count_is,
-      ap length first.behind,
-      length-append (flat_map (csum_bytes w) first.csums) (flat_map (extent_bytes w) first.rest),
-      length-csums w first.csums,
-    )
-
-    module _ (new piece : List ℕ) (passed : ReadsBytes (bytes_of w h.count) mid new piece) where
-      pub fewer : length new < length fields
-      fewer = omega (arith, ap length read.spelled, ap length passed.parts, length-append piece new)
-
-      rest_spelled : new ≡ flat_map (extent_bytes w) first.rest
-      rest_spelled =
-          let n : ℕ = bytes_of w h.count in
-          let size : length (flat_map (csum_bytes w) first.csums) ≡ n = length-csums w first.csums ∙ sym (ap (bytes_of w) first.count_is) in
-          sym (drop_at piece new n passed.size) ∙ ap (drop n) (sym passed.parts ∙ first.behind)
-          ∙ drop_at (flat_map (csum_bytes w) first.csums) (flat_map (extent_bytes w) first.rest) n size
-
-      pub one_marked : (then : Marks) → then ≡ run_marked m h.unit h.count → AreMarkedTo w old bytes new then
-      one_marked then is = record {
-        all = so_far.all;
-        whole = so_far.whole;
-        left = first.rest;
-        spelled = record { fit = first.fit; spelled = rest_spelled };
-        below = subst (λ n. AllEndBy n first.rest) (sym (ap (λ (x : Marks). length x.owned) is ∙ length-run m h.unit h.count)) ends.1;
-        marked = ap (λ x. extents_marked x first.rest) (is ∙ ap (run_marked m h.unit) first.count_is)
-            ∙ sym (ap (extents_marked m) first.is) ∙ so_far.marked;
+  pub next_marked : (new : List ℕ) (then : Marks) → MarksExtent w fields new m then → AreMarkedTo w old bytes new then
+  next_marked new then marks =
+      let behind = spelled_behind w fields new marks.extent so_far.left so_far.spelled marks.read in
+      let below : AllEndBy (length m.owned) (marks.extent ∷ behind.rest) = subst (AllEndBy (length m.owned)) behind.are so_far.below in
+      record {
+        left = behind.rest;
+        spelled = behind.spelled;
+        below = subst (λ n. AllEndBy n behind.rest) (sym (ap (λ (x : Marks). length x.owned) marks.marked ∙ length-body m marks.extent.body)) below.1;
+        marked = λ es spelled.
+            ap (λ x. extents_marked x behind.rest) marks.marked ∙ sym (ap (extents_marked m) behind.are) ∙ so_far.marked es spelled;
       }
 
-  pub all_marked : BeginsWithNoExtent w fields → (es : List Extent) → SpellExtents w bytes es → m ≡ extents_marked old es
-  all_marked none es spelled = by so_far.left so_far.spelled so_far.marked
-      ∙ ap (extents_marked old) (same_extents w bytes so_far.all es so_far.whole spelled)
+  pub all_marked : fields ≡ [] → (es : List Extent) → SpellExtents w bytes es → m ≡ extents_marked old es
+  all_marked empty es spelled = ap (extents_marked m) (sym (none so_far.left so_far.spelled)) ∙ so_far.marked es spelled
     where
-      by : (left : List Extent) → SpellExtents w fields left → extents_marked m left ≡ extents_marked old so_far.all
-          → m ≡ extents_marked old so_far.all
-      by [] spelled is = is
-      by (e ∷ left) spelled is =
-          absurd (none e (flat_map (extent_bytes w) left) spelled.fit.0 (spelled.spelled ∙ flat_map-cons (extent_bytes w) e left))
+      none : (left : List Extent) → SpellExtents w fields left → left ≡ []
+      none [] said = refl
+      none (e ∷ left) said =
+          absurd (omega (
+            arith,
+            some_bytes w e (flat_map (extent_bytes w) left),
+            ap length (sym (said.spelled ∙ flat_map-cons (extent_bytes w) e left) ∙ empty),
+          ))

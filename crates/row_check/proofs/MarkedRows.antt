@@ -11,10 +11,10 @@ use Rattle.unit_fields.specs.declared.width.Width.{Width}
 use Rattle.meta_rows.specs.Prelude.{Rows}
 use Rattle.meta_log.specs.declared.slot.Super.{Super}
 use Rattle.meta_log.specs.Prelude.{width_of}
-use Rattle.row_format.specs.Prelude.{shard_key, Body, private, Extent, ExtentsAscend, own, shard}
+use Rattle.row_format.specs.Prelude.{shard_key, Body, private, shared, Extent, ExtentsAscend, own, Slot, shard, blob}
 use Rattle.row_format.specs.Row as format
 use Rattle.row_format.proofs.Prelude.{same_row, is_shard_or_none}
-use Rattle.store_image.specs.Prelude.{HasRow, HasShard, IsPageAt, IsOnData, IsShardInPlace, IsGoodRow, NoBadRow, Owner, page_of, Owns}
+use Rattle.store_image.specs.Prelude.{HasRow, HasShard, IsPageAt, HasSlot, IsOnData, IsShardInPlace, IsGoodRow, NoBadRow, Owner, page_of, slot_of, Owns}
 use Rattle.store_image.proofs.Prelude.{in_place, equal_or_not, shard_placed}
 use Rattle.row_reading.specs.Reading.{SpellsRow}
 use Rattle.onode_codec.specs.Reading.{SpellExtents}
@@ -93,6 +93,7 @@ same_spelled w key value a b p q = same_row w a b p.fits q.fits (sym p.key_is �
 
 body_ends : (s : Super) (body : Body) → IsOnData s body → EndsBy s.units body
 body_ends s (private unit csums) on = on.1
+body_ends s (shared sbid first count) on = tt
 
 all_end : (s : Super) (es : List Extent) → AllByRecursion (λ e. IsOnData s e.body) es → AllEndBy s.units es
 all_end s [] all = tt
@@ -229,7 +230,26 @@ module _ (s : Super) (rows : Rows) (good : NoBadRow s rows) where
 
 -- ---- all rows
 
+-- a page is no slot
+page_no_slot : (c o : List ℕ) (page sbid index : ℕ) → page_of c o page ≡ slot_of sbid index → ⊥
+page_no_slot c o page sbid index e = cc
+
 pub same_or_not : (a b : Owner) → (a ≡ b) ⊎ (a ≡ b → ⊥)
+same_or_not (page_of c o p) (slot_of sbid index) = inr (page_no_slot c o p sbid index)
+same_or_not (slot_of sbid index) (page_of c o p) = inr (λ e. page_no_slot c o p sbid index (sym e))
+same_or_not (slot_of s i) (slot_of t j) = elim (cases_eq s t) [
+  | inr apart ↦ inr (λ e. apart (sbid_of e))
+  | inl sbid ↦ elim (cases_eq i j) [
+    | inl index ↦ inl (λ k. slot_of (sbid k) (index k))
+    | inr apart ↦ inr (λ e. apart (index_of e))
+  ]
+]
+  where
+    sbid_of : slot_of s i ≡ slot_of t j → s ≡ t
+    sbid_of e = cc
+
+    index_of : slot_of s i ≡ slot_of t j → i ≡ j
+    index_of e = cc
 same_or_not (page_of c o p) (page_of d u q) = elim (equal_or_not c d) [
   | inr apart ↦ inr (λ e. apart (coll_of e))
   | inl coll ↦ elim (equal_or_not o u) [
@@ -250,7 +270,14 @@ same_or_not (page_of c o p) (page_of d u q) = elim (equal_or_not c d) [
     number : page_of c o p ≡ page_of d u q → p ≡ q
     number e = cc
 
-module _ (w : Width) (rows : Rows) (es : List (List ℕ × List ℕ)) (are : AreRows rows es) (i : ℕ) (end : length es ≤ i) where
+-- no blob has a slot so far: no row of one is good
+pub no_slot : (s : Super) (rows : Rows) → NoBadRow s rows → (sbid index at : ℕ) (is : Slot) → HasSlot (width_of s) rows sbid index at is → ⊥
+no_slot s rows good sbid index at is has = (in_place s rows (blob sbid has.first has.slots) good has.has_blob).to_come
+
+module _ (s : Super) (rows : Rows) (good : NoBadRow s rows) (es : List (List ℕ × List ℕ)) (are : AreRows rows es) (i : ℕ) (end : length es ≤ i) where
+  abbrev w : Width
+  w = width_of s
+
   row_owner : (row : format.Row) (a : Owner) (v : ℕ) → HasRow w rows row → RowOwns row a v → Owns w rows a v
   row_owner row a v has owns =
       let there = subst (HasRow w rows) (owns_shard row a v owns) has in
@@ -261,6 +288,7 @@ module _ (w : Width) (rows : Rows) (es : List (List ℕ × List ℕ)) (are : Are
   owns_of a v b = row_owner b.row a v (has_spelled w rows es are b.at ([], []) b.row b.within (b.stands ([], []))) b.owns
 
   before_of : (a : Owner) (v : ℕ) → Owns w rows a v → OwnsBefore w es i a v
+  before_of (slot_of sbid index) v owns = absurd (no_slot s rows good sbid index v owns.0 owns.1.0)
   before_of (page_of c o page) v owns =
       let at : IsPageAt w rows c o page (own v owns.0) = owns.1 in
       let found = are.stands _ _ at.has_shard.stands in

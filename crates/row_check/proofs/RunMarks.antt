@@ -4,7 +4,7 @@ use Rattle.std.specs.Prelude.{nat_le, nat_lt, ◌&&◌, slice_index}
 use Rattle.std.specs.List.{AllByRecursion}
 use Rattle.std.proofs.lemmas.Bool.{cases_Bool, cases_lt, ltb-true, leb-true, lt-ltb, le-leb}
 use Rattle.std.proofs.lemmas.List.{length-set}
-use Rattle.row_format.specs.Prelude.{Body, private, page_count, Extent, page_end, ExtentsAscend, Place, own, place_in, place_of, BeginsAt}
+use Rattle.row_format.specs.Prelude.{Body, private, shared, page_count, Extent, page_end, ExtentsAscend, Place, own, slot, place_in, place_of, BeginsAt}
 use Rattle.row_format.specs.Row as format
 use Rattle.row_format.proofs.Prelude.{is_shard_or_none}
 use Rattle.store_image.specs.Prelude.{Owner, page_of}
@@ -21,6 +21,7 @@ run_units units m first (suc n) has =
 
 pub body_units : (units : ℕ) (m : Marks) (body : Body) → HasUnits units m → HasUnits units (body_marked m body)
 body_units units m (private unit csums) has = run_units units m unit (length csums) has
+body_units units m (shared sbid first count) has = has
 
 extents_units : (units : ℕ) (es : List Extent) (m : Marks) → HasUnits units m → HasUnits units (extents_marked m es)
 extents_units units [] m has = has
@@ -144,9 +145,9 @@ same_number c o d u i j e = cc
 same_unit : (a b u k : ℕ) → own a b ≡ own u k → a ≡ u
 same_unit a b u k e = cc
 
--- the unit of a place of an object's own
-unit_there : (place : Place) → (unit : ℕ) × (csum : ℕ) × (place ≡ own unit csum)
-unit_there (own unit csum) = (unit, csum, refl)
+-- a slot is no unit of an object's own
+no_unit : (sbid index unit csum : ℕ) → slot sbid index ≡ own unit csum → ⊥
+no_unit sbid index unit csum e = cc
 
 module _ (c o : List ℕ) where
   -- the object's page in one of the extents owns the unit
@@ -168,10 +169,16 @@ module _ (c o : List ℕ) where
   pages_differ first i j e = omega (arith, same_number c o c o (first + i) (first + j) e)
 
   body_tells : (P : Owner → ℕ → Type 0) (m : Marks) (units first : ℕ) (body : Body) → Tells P m → HasUnits units m → EndsBy units body
-      → ((k v : ℕ) → k < page_count body → P (page_of c o (first + k)) v → ⊥) → Tells (λ a v. P a v ⊎ BodyOwns first body a v) (body_marked m body)
+      → ((a : Owner) (v w : ℕ) → BodyOwns first body a v → P a w → ⊥) → Tells (λ a v. P a v ⊎ BodyOwns first body a v) (body_marked m body)
+  body_tells P m units first (shared sbid index count) old has ends apart =
+      tells_same P _ m (λ a v. (inl, λ q. elim q [ inl p ↦ p | inr b ↦ absurd (no_unit sbid (index + b.k) v b.csum b.place_is) ])) old
   body_tells P m units first (private unit csums) old has ends apart =
-      tells_same _ _ _ same (run_tells (λ k. page_of c o (first + k)) (pages_differ first) P m unit units old has (length csums) ends apart)
+      tells_same _ _ _ same (run_tells (λ k. page_of c o (first + k)) (pages_differ first) P m unit units old has (length csums) ends run_apart)
     where
+      run_apart : (k v : ℕ) → k < length csums → P (page_of c o (first + k)) v → ⊥
+      run_apart k v lt p = apart (page_of c o (first + k)) (unit + k) v
+          (record { k = k; small = lt; owner_is = refl; csum = slice_index csums k; place_is = refl }) p
+
       same : (a : Owner) (v : ℕ) → (P a v ⊎ RunOwns (λ k. page_of c o (first + k)) (pages_differ first) unit (length csums) a v)
           ↔ (P a v ⊎ BodyOwns first (private unit csums) a v)
       same a v = (
@@ -220,11 +227,8 @@ module _ (c o : List ℕ) where
         found = later_has e es x.page (own v x.csum) ascend.0 x.found;
       }
 
-      first_apart : (k v : ℕ) → k < page_count e.body → P (page_of c o (e.first + k)) v → ⊥
-      first_apart k v lt p =
-          let there = unit_there (place_in e.body k) in
-          apart (page_of c o (e.first + k)) there.0 v
-          (of_first _ _ (record { k = k; small = lt; owner_is = refl; csum = there.1; place_is = there.2 })) p
+      first_apart : (a : Owner) (v w : ℕ) → BodyOwns e.first e.body a v → P a w → ⊥
+      first_apart a v w b p = apart a v w (of_first a v b) p
 
       later_apart : (a : Owner) (v w : ℕ) → ExtentsOwn es a v → P a w ⊎ BodyOwns e.first e.body a w → ⊥
       later_apart a v w x q = elim q [

@@ -7,16 +7,26 @@ use Rattle.unit_fields.specs.Prelude.{IsName, IsCollName}
 use Rattle.meta_rows.specs.Prelude.{Rows}
 use Rattle.meta_log.specs.declared.slot.Super.{Super}
 use Rattle.meta_log.specs.Prelude.{width_of}
-use Rattle.row_format.specs.Prelude.{onode_key, shard_key, Extent, page_end, collection, onode, shard, attribute, omap_header, omap_pair, bitmap}
+use Rattle.row_format.specs.Prelude.{onode_key, shard_key, Body, private, shared, Extent, page_end, collection, onode, shard, attribute, omap_header, omap_pair, blob, bitmap}
 use Rattle.row_format.specs.Row as format
 use Rattle.row_format.proofs.Prelude.{same_head, coll_no_object, bitmap_no_object, same_place, same_row}
-use Rattle.store_image.specs.Prelude.{HasShard, IsInPlace, IsShardInPlace, IsGoodRow}
+use Rattle.store_image.specs.Prelude.{HasShard, IsOnData, HasSlots, IsInPlace, IsShardInPlace, IsGoodRow}
 use Rattle.row_reading.specs.declared.row.Row.{Row}
 use Rattle.row_reading.specs.declared.row.Row.TheVariants as read
 use Rattle.row_reading.specs.Reading.{format_row, SpellsRow}
 use Rattle.row_check.specs.declared.passed.Passed.{Passed}
 use Rattle.row_check.specs.Bad.{IsFirst, IsLast, EndAt, ShardsEndAt, Knows, IsBelow, IsAtRow, IsShardOf, EndsBefore, ShardStands}
 use Rattle.row_reading.proofs.KeyOrder.{has_front, onode_front, shard_front, page_bytes, lesser_page, lesser_shard, onode_before}
+
+-- what stands on data units is on no slots so far
+on_no_slots : (s : Super) (rows : Rows) (c : List ℕ) (es : List Extent) → AllByRecursion (λ e. IsOnData s e.body) es
+    → AllByRecursion (λ e. HasSlots (width_of s) rows c e.body) es
+on_no_slots s rows c [] all = tt
+on_no_slots s rows c (e ∷ es) all = (of_body e.body all.0, on_no_slots s rows c es all.1)
+  where
+    of_body : (b : Body) → IsOnData s b → HasSlots (width_of s) rows c b
+    of_body (private unit csums) on = tt
+    of_body (shared sbid first count) on = absurd on
 
 module _ (s : Super) (rows : Rows) (c o : List ℕ) (page : ℕ) (coll : IsCollName c) (name : IsName o) (below : page < 2 ^ 32) where
   -- what a shard asks of those before it
@@ -42,6 +52,7 @@ module _ (s : Super) (rows : Rows) (c o : List ℕ) (page : ℕ) (coll : IsCollN
     shard_last None first = absurd (first (shard c o earlier es) has less)
     shard_last (Some (read.Collection d)) is =
         let front = last_front (collection d) is.1 in absurd (coll_no_object d c o (0x6f ∷ front.0) (front.1 ∙ onode_front c o front.0))
+    shard_last (Some (read.Blob sbid first slots)) is = let front = last_front (blob sbid first slots) is.1 in absurd (omega (arith, same_head _ _ _ _ front.1))
     shard_last (Some (read.Bitmap r bits)) is =
         let front = last_front (bitmap r bits) is.1 in absurd (bitmap_no_object r c o (0x6f ∷ front.0) (front.1 ∙ onode_front c o front.0))
     shard_last (Some (read.Attribute d u n)) is = let front = last_front (attribute d u n is.0) is.1 in absurd (omega (arith, same_head _ _ _ _ front.1))
@@ -78,6 +89,7 @@ module _ (s : Super) (rows : Rows) (c o : List ℕ) (page : ℕ) (coll : IsCollN
         by : (last : Option Row) → ShardsEndAt (width_of s) rows (IsBelow (shard_key c o page)) last p.end → IsShardOf last c o → p.end ≤ n
         by None end own = absurd own
         by (Some (read.Collection d)) end own = absurd own
+        by (Some (read.Blob sbid first slots)) end own = absurd own
         by (Some (read.Bitmap r bits)) end own = absurd own
         by (Some (read.Attribute d u k)) end own = absurd own
         by (Some (read.OmapHeader d u)) end own = absurd own
@@ -104,6 +116,7 @@ module _ (s : Super) (rows : Rows) (c o : List ℕ) (page : ℕ) (coll : IsCollN
         behind = behind_last ends;
         within = stands.within_onode.within;
         on_data = stands.on_data;
+        slots = on_no_slots s rows c es stands.on_data;
       },
       λ place. record {
         ascend = place.ascend;

@@ -75,6 +75,7 @@ module _ (s : Super) (rows : Rows) (B C : List ℕ → Type 0) (same : (r : form
   end_as (Some (read.Attribute d u n)) end is = tt
   end_as (Some (read.OmapHeader d u)) end is = tt
   end_as (Some (read.OmapPair d u k)) end is = tt
+  end_as (Some (read.Blob sbid first slots)) end is = tt
   end_as (Some (read.Bitmap r bits)) end is = tt
   end_as (Some (read.Shard d u q fs)) end is = λ page. (
     λ le first es has before. (is page).0 le first es has ((same (shard d u first es) has).1 before),
@@ -128,6 +129,7 @@ module _ (s : Super) (rows : Rows) (key value : List ℕ) (stands : map.get rows
   shards_end (read.Attribute d u n) p end spells knows with_row = tt
   shards_end (read.OmapHeader d u) p end spells knows with_row = tt
   shards_end (read.OmapPair d u k) p end spells knows with_row = tt
+  shards_end (read.Blob sbid first slots) p end spells knows with_row = tt
   shards_end (read.Bitmap r bits) p end spells knows with_row = tt
   shards_end (read.Shard c o page es) p end spells knows with_row =
       let here : Knows s rows (IsBelow (shard_key c o page)) p = subst (λ (k : List ℕ). Knows s rows (IsBelow k) p) spells.key_is knows in

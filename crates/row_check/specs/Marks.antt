@@ -1,11 +1,11 @@
 -- Marks at units: a first one where a page stands, and a second one where another page does too.
-use Rattle.std.specs.Prelude.{ℕ, zero, suc, ◌+◌, ◌≤◌, ◌||◌, Bool, true, false, List, [], ◌∷◌, length, replicate, slice_index_or, slice_set, refl}
+use Rattle.std.specs.Prelude.{◌≡◌, ℕ, zero, suc, ◌+◌, ◌≤◌, ◌||◌, Bool, true, false, List, [], ◌∷◌, ◌++◌, length, replicate, slice_index_or, slice_set, refl}
 use Rattle.std.specs.List.{AllByRecursion}
 use Rattle.std.specs.Coded.{Coded, code_by, coded×, coded_list, coded_bool}
 use Rattle.unit_fields.specs.declared.width.Width.{Width}
-use Rattle.row_format.specs.Prelude.{Body, private, Extent}
+use Rattle.row_format.specs.Prelude.{Body, private, shared, Extent, extent_bytes, FitsExtent}
 use Rattle.row_format.specs.Row as format
-use Rattle.onode_codec.specs.Reading.{SpellExtents}
+use Rattle.onode_codec.specs.Reading.{ReadsExtent, SpellExtents}
 
 -- the first and the second mark of each unit
 pub record Marks : Type 0 where
@@ -32,8 +32,10 @@ abbrev pub run_marked : Marks → ℕ → ℕ → Marks
 run_marked m unit zero = m
 run_marked m unit (suc n) = one_page_more (run_marked m unit n) (unit + n)
 
+-- (Pages on slots are none of these: a blob's row says where its slots are.)
 abbrev pub body_marked : Marks → Body → Marks
 body_marked m (private unit csums) = run_marked m unit (length csums)
+body_marked m (shared sbid first count) = m
 
 -- the pages of these extents stand on their units
 abbrev pub extents_marked : Marks → List Extent → Marks
@@ -47,6 +49,7 @@ row_marked m row = extents_marked m (format.shard_in row).extents
 -- the units of these pages are below this one
 abbrev pub EndsBy : ℕ → Body → Type 0
 EndsBy units (private unit csums) = unit + length csums ≤ units
+EndsBy units (shared sbid first count) = Unit {0}
 
 abbrev pub AllEndBy : ℕ → List Extent → Type 0
 AllEndBy units es = AllByRecursion (λ e. EndsBy units e.body) es
@@ -59,3 +62,17 @@ pub record SpellExtentsBelow (w : Width) (bytes : List ℕ) (units : ℕ) : Type
   pub extents : List Extent
   pub spelled : SpellExtents w bytes extents
   pub below : AllEndBy units extents
+
+-- such an extent stands at the front
+pub record BeginsBelow (w : Width) (bytes : List ℕ) (units : ℕ) : Type 0 where
+  pub extent : Extent
+  pub rest : List ℕ
+  pub fits : FitsExtent w extent
+  pub below : EndsBy units extent.body
+  pub spelled : bytes ≡ extent_bytes w extent ++ rest
+
+-- an extent was read, and the units of its pages are marked
+pub record MarksExtent (w : Width) (old new : List ℕ) (m then : Marks) : Type 0 where
+  pub extent : Extent
+  pub read : ReadsExtent w old new extent
+  pub marked : then ≡ body_marked m extent.body

@@ -3,7 +3,7 @@ ghost use Rattle.std.specs.Prelude.{◌≡◌, ◌↔◌, ◌≤◌, ◌<◌, �
 ghost use Rattle.std.specs.List.{AllByRecursion};
 ghost use Rattle.unit_fields.specs.Prelude.{IsName, IsCollName};
 ghost use Rattle.row_format.specs.Prelude.{coll_key, onode_key, page_end, ExtentsAscend};
-ghost use Rattle.store_image.specs.Prelude.{HasKey, HasOnode, pages_of, IsOnData, HasObject, AreOfData, IsInPlace, IsDataUnit};
+ghost use Rattle.store_image.specs.Prelude.{HasKey, HasOnode, pages_of, AreData, IsOnData, HasObject, AreOfData, IsInPlace, IsDataUnit};
 ghost use Rattle.onode_codec.specs.Reading.{SpellsOnode};
 ghost use Rattle.row_reading.specs.Reading.{format_row};
 ghost use Rattle.row_check.specs.Bad.{IsOfObject, IsOfNoObject, IsPlacedOf, IsPlacedIn, IsOnodeOf, IsWithinOnode, ShardStands, IsAtRow};
@@ -27,9 +27,8 @@ const BYTE_UNITS: u32 = 8;
 fn ends_by(extent: &Extent, page: u64) -> bool
     ensures { IsTrue result ↔ (page_end extent.now ≤ page) }
 {
-    let Body::Private { unit: _unit, csums } = &extent.body;
     let first = u64::from(extent.first);
-    first <= page && csums.len() as u64 <= page - first
+    first <= page && extent.body.page_count() <= page - first
 }
 
 fn all_end_by(extents: &[Extent], page: u64) -> bool
@@ -51,14 +50,24 @@ fn ascend(extents: &[Extent]) -> bool
     true
 }
 
-// Whether an extent's pages stand on data units.
+// Whether so many units from this one on are data units.
+fn are_data(sup: &Super, first: u64, count: u64) -> bool
+    ensures { IsTrue result ↔ AreData sup.now first count }
+{
+    let units = u64::from(sup.units);
+    2 + 2 * u64::from(sup.half) <= first && first <= units && count <= units - first
+}
+
+// Whether an extent's pages stand on data units. Of those on slots none do so far.
 fn is_on_data(sup: &Super, extent: &Extent) -> bool
     ensures { IsTrue result ↔ IsOnData sup.now extent.now.body }
 {
-    let Body::Private { unit, csums } = &extent.body;
-    let unit = u64::from(unit.number());
-    let units = u64::from(sup.units);
-    2 + 2 * u64::from(sup.half) <= unit && unit <= units && csums.len() as u64 <= units - unit
+    match &extent.body {
+        Body::Private { unit, csums } => {
+            are_data(sup, u64::from(unit.number()), csums.len() as u64)
+        }
+        Body::Shared { .. } => false,
+    }
 }
 
 fn all_on_data(sup: &Super, extents: &[Extent]) -> bool
@@ -340,6 +349,7 @@ pub fn is_in_place(
             object,
             key: _key,
         } => has_object(alloc, rows, passed, coll, object),
+        Row::Blob { .. } => Ok(false),
         Row::Bitmap { row, bits } => Ok(are_of_data(sup, *row, bits.as_slice())),
     }
 }

@@ -4,7 +4,7 @@ ghost use Rattle.std.specs.List.{AllByRecursion};
 ghost use Rattle.row_format.specs.Prelude.{page_end};
 ghost use Rattle.row_check.specs.Bad.{IsShardOf, EndsBefore, IsEndOf, EndsWith, HasLowPages};
 
-use onode_codec::{Body, Extent};
+use onode_codec::Extent;
 use row_reading::Row;
 use unit_fields::{CollName, Name};
 
@@ -52,8 +52,7 @@ fn page_behind(extent: &Extent) -> u64
     requires { page_end extent.now < 2 ^ 33 }
     ensures { result ≡ page_end extent.now }
 {
-    let Body::Private { unit: _unit, csums } = &extent.body;
-    u64::from(extent.first) + csums.len() as u64
+    u64::from(extent.first) + extent.body.page_count()
 }
 
 // The greatest page behind an extent.

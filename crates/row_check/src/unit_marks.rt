@@ -1,14 +1,15 @@
 //! Marks at the units where pages stand.
-ghost use Rattle.std.specs.Prelude.{◌≡◌, ◌+◌, ◌<◌, ◌≤◌, List, IfOk, false, length, replicate};
+ghost use Rattle.std.specs.Prelude.{◌≡◌, ◌+◌, ◌<◌, ◌≤◌, ℕ, List, IfOk, false, length, replicate};
+ghost use Rattle.unit_fields.specs.Prelude.{ReadsBytes, bytes_of};
 ghost use Rattle.row_format.specs.Prelude.{Extent};
 ghost use Rattle.onode_codec.specs.Reading.{SpellExtents};
-ghost use Rattle.row_check.specs.Marks.{no_marks, one_page_more, run_marked, extents_marked, SpellExtentsBelow};
+ghost use Rattle.row_check.specs.Marks.{no_marks, one_page_more, run_marked, extents_marked, SpellExtentsBelow, BeginsBelow, MarksExtent};
 
-use onode_codec::Head;
+use onode_codec::{Head, Start};
 use std::alloc::{AllocError, Global};
 use std::marker::Model;
 use std::mem::replace;
-use unit_fields::{Fields, Width};
+use unit_fields::{Fields, UnitNo, Width};
 
 /// For each unit of a device a mark where a page stands on it, and a second one where another page does too.
 #[derive(Drop)]
@@ -67,18 +68,49 @@ impl UnitMarks {
         }
     }
 
-    /// The pages of the extents that these bytes spell, with checksums of this width, stand on their units. The checksums are passed over.
+    // So many pages more, whose checksums are at the front, stand on the units from this one on. The checksums are passed over.
+    fn mark_units(&mut self, width: Width, unit: UnitNo, count: u16, fields: &mut Fields)
+        requires marks { unit + count ≤ length self.old.owned }
+        requires csums { bytes_of width count ≤ length fields.old }
+        requires few { count ≤ 256 }
+        ensures marked { self.new ≡ run_marked self.old unit count }
+        ensures passed { (piece : List ℕ) × ReadsBytes (bytes_of width count) fields.old fields.new piece }
+    {
+        let _marks = &self.owned;
+        let count = usize::from(count);
+        self.mark_run(unit.number() as usize, count);
+        let Some(_csums) = fields.bytes(width.bytes_of(count)) else {
+            unreachable!();
+        };
+    }
+
+    // The pages of the extent at the front stand on their units.
+    fn mark_extent(&mut self, width: Width, fields: &mut Fields)
+        requires { BeginsBelow width fields.old (length self.old.owned) }
+        ensures { MarksExtent width fields.old fields.new self.old self.new }
+    {
+        let Some(head) = Head::read(fields) else {
+            unreachable!();
+        };
+        let Head {
+            first: _,
+            count,
+            start,
+        } = head;
+        match start {
+            Start::Unit(unit) => self.mark_units(width, unit, count, fields),
+            Start::Slot { .. } => {}
+        }
+    }
+
+    /// The pages of the extents that these bytes spell, with checksums of this width, stand on their units.
     pub fn mark_spelled(&mut self, width: Width, bytes: &[u8])
         requires { SpellExtentsBelow width bytes.now (length self.old.owned) }
         ensures { (es : List Extent) → SpellExtents width bytes.now es → self.new ≡ extents_marked self.old es }
     {
-        let _marks = &self.owned;
         let mut fields = Fields::new(bytes);
-        'extents: while let Some(head) = Head::read(&mut fields) {
-            self.mark_run(head.unit.number() as usize, usize::from(head.count));
-            let Some(_csums) = fields.bytes(width.bytes_of(usize::from(head.count))) else {
-                unreachable!();
-            };
+        'extents: while !fields.is_empty() {
+            self.mark_extent(width, &mut fields);
         }
     }
 

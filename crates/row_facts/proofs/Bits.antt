@@ -5,7 +5,7 @@ use Rattle.unit_fields.specs.declared.width.Width.{Width}
 use Rattle.meta_rows.specs.Prelude.{Rows}
 use Rattle.meta_rows.proofs.RowLemmas.{get-remove_other}
 use Rattle.row_format.specs.Prelude.{bitmap_key, bit_row, bit_in}
-use Rattle.store_image.specs.Prelude.{IsOwned, IsMarked, IsExactBut, HasSoleOwner}
+use Rattle.store_image.specs.Prelude.{IsOwned, IsMarked, IsExactBut, HasSoleOwner, CountsAreExact}
 use Rattle.row_facts.proofs.Maps.{get_other}
 
 -- the key is none of the bitmap's
@@ -28,12 +28,13 @@ bits_stay_set rows key value other = bits_stay rows (map.insert rows key value) 
 pub bits_stay_dropped : (rows : Rows) (key : List ℕ) → IsNoBitmapKey key → (unit : ℕ) → IsMarked (map.remove rows key) unit ↔ IsMarked rows unit
 bits_stay_dropped rows key other = bits_stay rows (map.remove rows key) (λ r. get-remove_other rows key (bitmap_key r) (λ e. other r (sym e)))
 
--- where the same units are marked and owned, and no owner comes to a unit that has one, the rows stay exact
+-- where the same units are marked and owned, no owner comes to a unit that has one, and counts stay exact, the rows stay exact
 pub exact_stays : (w : Width) (rows after : Rows) → ((unit : ℕ) → IsMarked after unit ↔ IsMarked rows unit)
     → ((unit : ℕ) → IsOwned w after unit ↔ IsOwned w rows unit) → ((unit : ℕ) → HasSoleOwner w rows unit → HasSoleOwner w after unit)
-    → (leaked : ℕ → Type 0) → IsExactBut w leaked rows → IsExactBut w leaked after
-exact_stays w rows after bits owned sole leaked exact = record {
+    → (CountsAreExact w rows → CountsAreExact w after) → (leaked : ℕ → Type 0) → IsExactBut w leaked rows → IsExactBut w leaked after
+exact_stays w rows after bits owned sole counts leaked exact = record {
   marked = λ unit small is. elim (exact.marked unit small ((bits unit).0 is)) [ inl was ↦ inl ((owned unit).1 was) | inr left ↦ inr (left.0, λ now. left.1 ((owned unit).0 now)) ];
   owned_marked = λ unit is. (bits unit).1 (exact.owned_marked unit ((owned unit).0 is));
   one_owner = λ unit. sole unit (exact.one_owner unit);
+  counts = counts exact.counts;
 }

@@ -1,5 +1,5 @@
 -- Rows after a collection is made.
-use Rattle.std.proofs.Common.{◌≡◌, ◌≢◌, inl, inr, ℕ, List, [], ◌∷◌, length, Option, Some, None, Ok, is_some, option_and_then, refl, sym, ap, subst, ◌∙◌, ◌↔◌}
+use Rattle.std.proofs.Common.{◌≡◌, ◌≢◌, inl, inr, ℕ, List, [], ◌∷◌, length, Option, Some, None, Ok, is_some, option_and_then, refl, sym, ap, subst, ◌∙◌, ◌↔◌, arith}
 use Rattle.std.specs.FinMap as map
 use Rattle.meta_rows.specs.Prelude.{Rows, rows_after}
 use Rattle.meta_log.specs.declared.slot.Super.{Super}
@@ -9,10 +9,10 @@ use Rattle.object_model.specs.declared.op.Op.TheVariants.{MkColl}
 use Rattle.unit_fields.specs.Prelude.{IsCollName}
 use Rattle.unit_fields.specs.declared.width.Width.{Width}
 use Rattle.byte_maps.specs.ByteMap.{byte_order}
-use Rattle.row_format.specs.Prelude.{coll_key, onode_key, Extent, own, Row, collection, onode, shard}
+use Rattle.row_format.specs.Prelude.{coll_key, onode_key, shared_key, Extent, own, slot, Slot, Row, collection, onode, shard, blob}
 use Rattle.row_format.proofs.Prelude.{same_head, same_coll, coll_no_object, bitmap_no_coll}
-use Rattle.store_image.specs.Prelude.{HasOnode, HasShard, NoBadRow, Owner, page_of, Owns, IsOwned, IsMarked, IsExactBut, HasSoleOwner, IsShape, ObjectsStand}
-use Rattle.store_image.proofs.Prelude.{equal_or_not, Carries, carried}
+use Rattle.store_image.specs.Prelude.{HasRow, HasOnode, HasShard, HasSlot, NoBadRow, Owner, page_of, slot_of, Owns, IsOwned, IsMarked, IsExactBut, HasSoleOwner, IsCounted, CountsAreExact, IsShape, ObjectsStand}
+use Rattle.store_image.proofs.Prelude.{equal_or_not, slot_still, Carries, carried}
 use Rattle.row_facts.specs.Operations.{coll_ops, coll_change}
 use Rattle.row_facts.proofs.Bits.{bits_stay_set, exact_stays}
 use Rattle.row_facts.proofs.Maps.{get_same, get_other}
@@ -34,6 +34,21 @@ module _ (w : Width) (rows : Rows) (c : List ℕ) where
   shard_apart : (d u : List ℕ) → IsApart w rows r d u
   shard_apart d u page es fits e = coll_no_object c d u _ (sym e)
 
+  no_blob : (sbid : ℕ) → shared_key sbid ≢ coll_key c
+  no_blob sbid e = omega (arith, same_head _ _ _ _ e)
+
+  same_blobs : (sbid : ℕ) → map.get (put_row w rows r) (shared_key sbid) ≡ map.get rows (shared_key sbid)
+  same_blobs sbid = get_other rows (coll_key c) [] (shared_key sbid) (no_blob sbid)
+
+  slot_kept : (sbid index at : ℕ) (x : Slot) → HasSlot w rows sbid index at x → HasSlot w (rows_after rows (coll_ops c)) sbid index at x
+  slot_kept sbid index at x has = slot_still w rows (put_row w rows r) sbid index at x (same_blobs sbid) has
+
+  slot_was : (sbid index at : ℕ) (x : Slot) → HasSlot w (rows_after rows (coll_ops c)) sbid index at x → HasSlot w rows sbid index at x
+  slot_was sbid index at x has = slot_still w (put_row w rows r) rows sbid index at x (sym (same_blobs sbid)) has
+
+  was_blob : IsCollName c → (sbid first : ℕ) (slots : List Slot) → HasRow w (put_row w rows r) (blob sbid first slots) → HasRow w rows (blob sbid first slots)
+  was_blob name sbid first slots has = elim (row_cases w rows r name (blob sbid first slots) has) [ inl e ↦ absurd cc | inr old ↦ old.0 ]
+
   was_onode : IsCollName c → (d u : List ℕ) (size : ℕ) → HasOnode (put_row w rows r) d u size → HasOnode rows d u size
   was_onode name d u size has = elim (row_cases w rows r name (onode d u size) has) [ inl e ↦ absurd cc | inr old ↦ old.0 ]
 
@@ -45,6 +60,27 @@ module _ (w : Width) (rows : Rows) (c : List ℕ) where
     λ owns. (owns.0, page_was w rows r d u (shard_apart d u) page (own unit owns.0) owns.1),
     λ owns. (owns.0, page_kept w rows r d u (shard_apart d u) page (own unit owns.0) owns.1),
   )
+  coll_owners (slot_of sbid index) unit = (
+    λ owns. (owns.0, (slot_was sbid index unit owns.0 owns.1.0, owns.1.1)),
+    λ owns. (owns.0, (slot_kept sbid index unit owns.0 owns.1.0, owns.1.1)),
+  )
+
+  -- the same pages name each slot
+  coll_counted : (sbid index count : ℕ) → IsCounted w rows sbid index count → IsCounted w (rows_after rows (coll_ops c)) sbid index count
+  coll_counted sbid index count is = record {
+    pages = is.pages;
+    namers = record {
+      each = λ p. (
+        λ has. page_kept w rows r p.coll p.object (shard_apart p.coll p.object) p.page (slot sbid index) ((is.namers.each p).0 has),
+        λ names. (is.namers.each p).1 (page_was w rows r p.coll p.object (shard_apart p.coll p.object) p.page (slot sbid index) names),
+      );
+      once = is.namers.once;
+    };
+    count_is = is.count_is;
+  }
+
+  coll_counts : CountsAreExact w rows → CountsAreExact w (rows_after rows (coll_ops c))
+  coll_counts counts sbid index unit x has = coll_counted sbid index x.count (counts sbid index unit x (slot_was sbid index unit x has))
 
   pub coll_owned : (unit : ℕ) → IsOwned w (rows_after rows (coll_ops c)) unit ↔ IsOwned w rows unit
   coll_owned unit = (
@@ -60,7 +96,7 @@ module _ (w : Width) (rows : Rows) (c : List ℕ) where
   coll_bits unit = bits_stay_set rows (coll_key c) [] (λ q e. bitmap_no_coll q c e) unit
 
   pub coll_exact : (leaked : ℕ → Type 0) → IsExactBut w leaked rows → IsExactBut w leaked (rows_after rows (coll_ops c))
-  coll_exact leaked exact = exact_stays w rows (rows_after rows (coll_ops c)) coll_bits coll_owned (λ unit sole. coll_sole unit sole) leaked exact
+  coll_exact leaked exact = exact_stays w rows (rows_after rows (coll_ops c)) coll_bits coll_owned (λ unit sole. coll_sole unit sole) coll_counts leaked exact
 
   module _ (objects : Objects) (none : map.get objects c ≡ None) where
     -- the objects are the same, each under its name
@@ -104,7 +140,7 @@ module _ (w : Width) (rows : Rows) (c : List ℕ) where
         → ObjectsStand w at (rows_after rows (coll_ops c)) (map.insert objects c map.empty)
     coll_stand at p = record {
       shape = coll_shape p.shape;
-      bytes = λ d u object is. bytes_kept w at at rows r d u object.bytes (shard_apart d u) (λ unit owned. refl)
+      bytes = λ d u object is. bytes_kept w at at rows r d u object.bytes (shard_apart d u) no_blob (λ unit owned. refl)
           (p.bytes d u object (sym (same_under d u) ∙ is));
     }
 
@@ -124,7 +160,9 @@ carries s rows c name = record {
   onode = λ d u. key_kept (width_of s) rows (collection c) (onode_key d u);
   was_size = was_onode (width_of s) rows c name;
   was_shard = was_shard (width_of s) rows c name;
-  on_data = λ b is. is;
+  blob_key = λ sbid. key_kept (width_of s) rows (collection c) (shared_key sbid);
+  was_blob = was_blob (width_of s) rows c name;
+  are_data = λ first count is. is;
   of_data = λ unit is. is;
 }
 

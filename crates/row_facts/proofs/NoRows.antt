@@ -6,8 +6,8 @@ use Rattle.unit_fields.specs.declared.width.Width.{Width}
 use Rattle.meta_rows.specs.Prelude.{Rows}
 use Rattle.meta_log.specs.declared.slot.Super.{Super}
 use Rattle.object_model.specs.Prelude.{Collection, object_under}
-use Rattle.row_format.specs.Prelude.{coll_key, onode_key, bitmap_key, bit_row, bit_in, Row, row_key, shard}
-use Rattle.store_image.specs.Prelude.{HasRow, NoBadRow, Owner, page_of, Owns, IsOwned, bit_of, IsMarked, IsExact, ObjectsStand}
+use Rattle.row_format.specs.Prelude.{coll_key, onode_key, bitmap_key, bit_row, bit_in, Row, row_key, shard, blob}
+use Rattle.store_image.specs.Prelude.{HasRow, NoBadRow, Owner, page_of, slot_of, Owns, IsOwned, bit_of, IsMarked, IsExact, ObjectsStand}
 use Rattle.std.specs.Prelude.{option_and_then, is_some, unwrap_or}
 use Rattle.std.proofs.lemmas.Nat.Bits.{bit_at-zero}
 
@@ -19,6 +19,7 @@ no_row w row has = let e = sym (map.get-empty byte_order (row_key row)) ∙ has.
 
 nobody : (w : Width) (owner : Owner) (unit : ℕ) → Owns w none owner unit → ⊥
 nobody w (page_of c o page) unit owns = no_row w (shard c o owns.1.first owns.1.extents) owns.1.has_shard
+nobody w (slot_of sbid index) unit owns = no_row w (blob sbid owns.1.0.first owns.1.0.slots) owns.1.0.has_blob
 
 no_object : (c o : List ℕ) → object_under map.empty c o ≡ None
 no_object c o = ap (λ (x : Option Collection). option_and_then (λ (found : Collection). map.get found o) x) (map.get-empty byte_order c)
@@ -51,6 +52,7 @@ none_exact w = record {
   marked = λ unit small marked. absurd (none_marked unit marked);
   owned_marked = λ unit owned. absurd (none_owned w unit owned);
   one_owner = λ unit a b owns others. absurd (none_owned w unit (a, owns));
+  counts = λ sbid index unit is has. absurd (no_row w (blob sbid has.first has.slots) has.has_blob);
 }
 
 -- what the laws cite

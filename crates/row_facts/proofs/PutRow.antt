@@ -5,7 +5,7 @@ use Rattle.unit_fields.specs.declared.width.Width.{Width}
 use Rattle.meta_rows.specs.Prelude.{Rows}
 use Rattle.meta_log.specs.declared.slot.Super.{Super}
 use Rattle.meta_log.specs.Prelude.{width_of}
-use Rattle.row_format.specs.Prelude.{Extent, Place, Row, shard, row_key, row_value, FitsRow}
+use Rattle.row_format.specs.Prelude.{shared_key, Extent, Place, Row, shard, row_key, row_value, FitsRow}
 use Rattle.row_format.proofs.Prelude.{same_row}
 use Rattle.store_image.specs.Prelude.{HasKey, HasRow, PageUnit, IsPageAt, IsPageOn, IsInPlace, NoBadRow}
 use Rattle.store_image.proofs.Prelude.{equal_or_not, stands_still}
@@ -72,13 +72,20 @@ module _ (w : Width) (rows : Rows) (r : Row) where
       has_page = is.has_page;
     }
 
-  module _ (d u : List ℕ) (apart : IsApart d u) (page : ℕ) (on : PageUnit) where
+  -- nor a shared blob
+  abbrev pub IsNoBlob : Type 0
+  IsNoBlob = (sbid : ℕ) → shared_key sbid ≢ row_key r
+
+  module _ (d u : List ℕ) (apart : IsApart d u) (no_blob : IsNoBlob) (page : ℕ) (on : PageUnit) where
+    blobs_kept : (sbid : ℕ) → map.get (put_row w rows r) (shared_key sbid) ≡ map.get rows (shared_key sbid)
+    blobs_kept sbid = get_other rows (row_key r) (row_value w r) (shared_key sbid) (no_blob sbid)
+
     pub on_kept : IsPageOn w rows d u page on → IsPageOn w (put_row w rows r) d u page on
     on_kept is = record {
       place = is.place;
       at = page_kept d u apart page is.place is.at;
       stands =
-          stands_still rows (put_row w rows r) is.place on is.stands;
+          stands_still w rows (put_row w rows r) is.place on blobs_kept is.stands;
     }
 
     pub on_was : IsPageOn w (put_row w rows r) d u page on → IsPageOn w rows d u page on
@@ -86,5 +93,5 @@ module _ (w : Width) (rows : Rows) (r : Row) where
       place = is.place;
       at = page_was d u apart page is.place is.at;
       stands =
-          stands_still (put_row w rows r) rows is.place on is.stands;
+          stands_still w (put_row w rows r) rows is.place on (λ sbid. sym (blobs_kept sbid)) is.stands;
     }

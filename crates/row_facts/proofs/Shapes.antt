@@ -6,7 +6,7 @@ use Rattle.meta_rows.specs.Prelude.{Rows}
 use Rattle.object_model.specs.Prelude.{Object}
 use Rattle.row_format.specs.Prelude.{Row}
 use Rattle.store_image.specs.Prelude.{HasOnode, HasPage, IsObjectShape, AreObjectBytes}
-use Rattle.row_facts.proofs.PutRow.{put_row, IsApart, on_kept, on_was}
+use Rattle.row_facts.proofs.PutRow.{put_row, IsApart, IsNoBlob, on_kept, on_was}
 
 -- rows of other kinds than collections, onodes, shards and those of the bitmap are the same
 abbrev pub SameOthers : Rows → Rows → Type 0
@@ -25,14 +25,14 @@ shape_kept rows after c o object same size shape = record {
 }
 
 -- the object's pages are seen as before, where the units on which pages stand hold what they held
-pub bytes_kept : (w : Width) (at after : ℕ → List ℕ) (rows : Rows) (r : Row) (d u : List ℕ) (bytes : List ℕ) → IsApart w rows r d u
+pub bytes_kept : (w : Width) (at after : ℕ → List ℕ) (rows : Rows) (r : Row) (d u : List ℕ) (bytes : List ℕ) → IsApart w rows r d u → IsNoBlob w rows r
     → ((unit : ℕ) → HasPage w rows unit → after unit ≡ at unit) → AreObjectBytes w at rows d u bytes
     → AreObjectBytes w after (put_row w rows r) d u bytes
-bytes_kept w at after rows r d u bytes apart same all = record {
+bytes_kept w at after rows r d u bytes apart no_blob same all = record {
   mapped = λ page on is.
-      let was = on_was w rows r d u apart page on is in
+      let was = on_was w rows r d u apart no_blob page on is in
       let seen = all.mapped page on was in
       let has : HasPage w rows on.unit = record { coll = d; object = u; page = page; on = on; is_on = was; is_unit = refl } in
       record { seen = seen.seen ∙ sym (same on.unit has); kept = seen.kept };
-  holes = λ page hole. all.holes page (λ on is. hole on (on_kept w rows r d u apart page on is));
+  holes = λ page hole. all.holes page (λ on is. hole on (on_kept w rows r d u apart no_blob page on is));
 }

@@ -6,13 +6,21 @@ use Rattle.std.specs.Int.{w32, to_le_bytes}
 use Rattle.std.proofs.lemmas.Bool.{ltb-true, ltb-false}
 use Rattle.std.proofs.lemmas.List.{drop_at, drop-drop, length-drop}
 use Rattle.std.proofs.lemmas.List.Concat.{flat_map-cons}
-use Rattle.std.proofs.lemmas.Nat.{from_le_bytes-to_le_bytes_2, from_le_bytes-to_le_bytes_4}
+use Rattle.std.proofs.lemmas.Nat.{from_le_bytes-to_le_bytes_2, from_le_bytes-to_le_bytes_4, from_le_bytes-to_le_bytes_8}
 use Rattle.unit_fields.specs.declared.width.Width.{Width}
 use Rattle.unit_fields.specs.declared.width.Width.TheVariants.{FourBytes}
 use Rattle.unit_fields.specs.Prelude.{bytes_of}
-use Rattle.row_format.specs.Prelude.{Body, private, Extent, extent_bytes, FitsBody, FitsExtent, first_in, count_in, unit_in, csums_in, size_in, extent_in, extents_by, extents_read, csum_bytes, csum_in, FitsCsum}
+use Rattle.row_format.specs.Prelude.{Body, private, shared, Extent, extent_bytes, FitsBody, FitsExtent, first_in, count_in, is_shared_in, unit_in, sbid_in, slot_number_in, csums_in, size_in, body_in, extent_in, extents_by, extents_read, csum_bytes, csum_in, FitsCsum}
 
 -- ---- one extent after the other
+
+-- an extent's head has some bytes
+pub some_size : (w : Width) (bytes : List ℕ) → 11 ≤ size_in w bytes
+some_size w bytes = by (is_shared_in bytes)
+  where
+    by : (b : Bool) → 11 ≤ cond b 17 (11 + bytes_of w (count_in bytes))
+    by true = omega arith
+    by false = omega arith
 
 -- where no extent is whole there is none
 by_none : (w : Width) (n : ℕ) (bytes : List ℕ) → length bytes < size_in w bytes → extents_by w n bytes ≡ []
@@ -36,8 +44,8 @@ by_more w n bytes whole = by (nat_lt (length bytes) (size_in w bytes)) refl
 
 -- as many steps as there are bytes are enough
 by_enough : (w : Width) (n m : ℕ) (bytes : List ℕ) → length bytes ≤ n → length bytes ≤ m → extents_by w n bytes ≡ extents_by w m bytes
-by_enough w zero m bytes a b = sym (by_none w m bytes (omega (arith, a)))
-by_enough w (suc n) zero bytes a b = by_none w (suc n) bytes (omega (arith, b))
+by_enough w zero m bytes a b = sym (by_none w m bytes (omega (arith, a, some_size w bytes)))
+by_enough w (suc n) zero bytes a b = by_none w (suc n) bytes (omega (arith, b, some_size w bytes))
 by_enough w (suc n) (suc m) bytes a b = by (by_enough w n m) (nat_lt (length bytes) (size_in w bytes)) refl
   where
     by : ((left : List ℕ) → length left ≤ n → length left ≤ m → extents_by w n left ≡ extents_by w m left)
@@ -47,7 +55,7 @@ by_enough w (suc n) (suc m) bytes a b = by (by_enough w n m) (nat_lt (length byt
         by_none w (suc n) bytes few ∙ sym (by_none w (suc m) bytes few)
     by same false is =
         let whole : size_in w bytes ≤ length bytes = ltb-false (length bytes) (size_in w bytes) is in
-        let left : length (drop (size_in w bytes) bytes) + 1 ≤ length bytes = omega (arith, whole, length-drop (size_in w bytes) bytes) in
+        let left : length (drop (size_in w bytes) bytes) + 1 ≤ length bytes = omega (arith, whole, some_size w bytes, length-drop (size_in w bytes) bytes) in
         by_more w n bytes whole
         ∙ ap (λ (l : List Extent). extent_in w bytes ∷ l) (same (drop (size_in w bytes) bytes) (omega (arith, left, a)) (omega (arith, left, b)))
         ∙ sym (by_more w m bytes whole)
@@ -60,7 +68,7 @@ pub read_more : (w : Width) (bytes : List ℕ) → size_in w bytes ≤ length by
     → extents_read w bytes ≡ extent_in w bytes ∷ extents_read w (drop (size_in w bytes) bytes)
 unfolding extents_read
 read_more w bytes whole =
-    let left : length (drop (size_in w bytes) bytes) + 1 ≤ length bytes = omega (arith, whole, length-drop (size_in w bytes) bytes) in
+    let left : length (drop (size_in w bytes) bytes) + 1 ≤ length bytes = omega (arith, whole, some_size w bytes, length-drop (size_in w bytes) bytes) in
     by_enough w (length bytes) (suc (length bytes)) bytes (omega arith) (omega arith)
     ∙ by_more w (length bytes) bytes whole
     ∙ ap (λ (l : List Extent). extent_in w bytes ∷ l)
@@ -120,6 +128,10 @@ module _ (w : Width) (first unit : ℕ) (cs rest : List ℕ) (first_fits : first
   unfolding unit_in
   unit_again = from_le_bytes-to_le_bytes_4 unit fits.0
 
+  kind_again : is_shared_in spelled ≡ false
+  unfolding is_shared_in
+  kind_again = refl
+
   behind_head : drop 11 spelled ≡ flat_map (csum_bytes w) cs ++ rest
   behind_head = refl
 
@@ -127,14 +139,17 @@ module _ (w : Width) (first unit : ℕ) (cs rest : List ℕ) (first_fits : first
   long = omega arith
 
   size_again : size_in w spelled ≡ 11 + length (flat_map (csum_bytes w) cs)
-  size_again = ap (λ (n : ℕ). 11 + bytes_of w n) count_again ∙ ap (λ (n : ℕ). 11 + n) (sym (length-csums w cs))
+  size_again = ap (λ (b : Bool). cond b 17 (11 + bytes_of w (count_in spelled))) kind_again ∙ ap (λ (n : ℕ). 11 + bytes_of w n) count_again ∙ ap (λ (n : ℕ). 11 + n) (sym (length-csums w cs))
+
+  body_again : body_in w spelled ≡ private unit cs
+  body_again =
+      ap (λ (b : Bool). cond b (shared (sbid_in spelled) (slot_number_in spelled) (count_in spelled))
+      (private (unit_in spelled) (csums_in w (count_in spelled) (drop 11 spelled)))) kind_again
+      ∙ (λ i. private (unit_again i) ((ap (λ (n : ℕ). csums_in w n (drop 11 spelled)) count_again ∙ csums_again w cs rest fits.3) i))
 
   -- it is read as it is
   extent_again : extent_in w spelled ≡ record { first = first; body = private unit cs }
-  extent_again = λ i. record {
-    first = first_again i;
-    body = private (unit_again i) ((ap (λ (n : ℕ). csums_in w n (drop 11 spelled)) count_again ∙ csums_again w cs rest fits.3) i);
-  }
+  extent_again = λ i. record { first = first_again i; body = body_again i }
 
   left_again : drop (size_in w spelled) spelled ≡ rest
   left_again =
@@ -149,6 +164,47 @@ module _ (w : Width) (first unit : ℕ) (cs rest : List ℕ) (first_fits : first
   read_again : extents_read w spelled ≡ record { first = first; body = private unit cs } ∷ extents_read w rest
   read_again = read_more w spelled whole_again ∙ (λ i. extent_again i ∷ extents_read w (left_again i))
 
+module _ (w : Width) (first sbid index count : ℕ) (rest : List ℕ) (first_fits : first < 2 ^ 32) (fits : FitsBody w (shared sbid index count)) where
+  abbrev shared_spelled : List ℕ
+  shared_spelled = extent_bytes w (record { first = first; body = shared sbid index count }) ++ rest
+
+  shared_kind : is_shared_in shared_spelled ≡ true
+  unfolding is_shared_in
+  shared_kind = refl
+
+  shared_first : first_in shared_spelled ≡ first
+  unfolding first_in
+  shared_first = from_le_bytes-to_le_bytes_4 first first_fits
+
+  shared_count : count_in shared_spelled ≡ count
+  unfolding count_in
+  shared_count = from_le_bytes-to_le_bytes_2 count (omega (arith, fits.3))
+
+  shared_sbid : sbid_in shared_spelled ≡ sbid
+  unfolding sbid_in
+  shared_sbid = from_le_bytes-to_le_bytes_8 sbid fits.0
+
+  shared_slot : slot_number_in shared_spelled ≡ index
+  unfolding slot_number_in
+  shared_slot = from_le_bytes-to_le_bytes_2 index fits.1
+
+  shared_size : size_in w shared_spelled ≡ 17
+  shared_size = ap (λ (b : Bool). cond b 17 (11 + bytes_of w (count_in shared_spelled))) shared_kind
+
+  shared_body : body_in w shared_spelled ≡ shared sbid index count
+  shared_body =
+      ap (λ (b : Bool). cond b (shared (sbid_in shared_spelled) (slot_number_in shared_spelled) (count_in shared_spelled))
+      (private (unit_in shared_spelled) (csums_in w (count_in shared_spelled) (drop 11 shared_spelled)))) shared_kind
+      ∙ (λ i. shared (shared_sbid i) (shared_slot i) (shared_count i))
+
+  shared_long : length shared_spelled ≡ 17 + length rest
+  shared_long = omega arith
+
+  shared_again : extents_read w shared_spelled ≡ record { first = first; body = shared sbid index count } ∷ extents_read w rest
+  shared_again =
+      read_more w shared_spelled (omega (arith, shared_size, shared_long))
+      ∙ (λ i. record { first = shared_first i; body = shared_body i } ∷ extents_read w (drop (shared_size i) shared_spelled))
+
 -- an extent that was written is read again, and then what stands behind it
 read_front : (w : Width) (e : Extent) (rest : List ℕ) → FitsExtent w e → extents_read w (extent_bytes w e ++ rest) ≡ e ∷ extents_read w rest
 read_front w e rest fits = by e.first e.body fits.first fits.body
@@ -156,6 +212,7 @@ read_front w e rest fits = by e.first e.body fits.first fits.body
     by : (first : ℕ) (b : Body) → first < 2 ^ 32 → FitsBody w b
         → extents_read w (extent_bytes w (record { first = first; body = b }) ++ rest) ≡ record { first = first; body = b } ∷ extents_read w rest
     by first (private unit cs) first_fits fit = read_again w first unit cs rest first_fits fit
+    by first (shared sbid index count) first_fits fit = shared_again w first sbid index count rest first_fits fit
 
 read_nothing : (w : Width) → extents_read w [] ≡ []
 unfolding extents_read

@@ -4,7 +4,7 @@ use Rattle.std.specs.Prelude.{nat_lt, ◌==◌, take, drop}
 use Rattle.std.specs.Int.{w32, w64, from_be_bytes, from_le_bytes}
 use Rattle.unit_fields.specs.Prelude.{IsName, IsCollName}
 use Rattle.unit_fields.specs.declared.width.Width.{Width}
-use Rattle.row_format.specs.Prelude.{coll_key, onode_key, shard_key, attr_key, header_key, omap_key, bitmap_key, Extent, Row, collection, onode, shard, attribute, omap_header, omap_pair, bitmap, row_key, row_value, row_thing, row_of, FitsRow, as_row, no_shard, shard_in, name_in, behind_name, thing_of, extents_read}
+use Rattle.row_format.specs.Prelude.{coll_key, onode_key, shard_key, attr_key, header_key, omap_key, bitmap_key, Extent, Row, collection, onode, shard, attribute, omap_header, omap_pair, blob, bitmap, row_key, row_value, row_thing, row_of, FitsRow, as_row, no_shard, shard_in, name_in, behind_name, thing_of, extents_read}
 use Rattle.row_format.specs.Things.{Thing, a_collection, an_onode, a_shard, an_attribute, an_omap_header, an_omap_pair, a_bitmap_row, header_or_pair}
 use Rattle.row_format.proofs.ThingLemmas.{collection_again, onode_again, shard_again, attribute_again, header_again, pair_again, bitmap_again}
 use Rattle.row_format.proofs.RowLemmas.{thing_again, row_again, names_thing, of_some}
@@ -138,6 +138,7 @@ row_case (shard c o page extents) = of_shard refl
 row_case (attribute c o name value) = of_other (λ d e. absurd cc) (λ d u n e. absurd cc) refl
 row_case (omap_header c o value) = of_other (λ d e. absurd cc) (λ d u n e. absurd cc) refl
 row_case (omap_pair c o key value) = of_other (λ d e. absurd cc) (λ d u n e. absurd cc) refl
+row_case (blob sbid first slots) = of_other (λ d e. absurd cc) (λ d u n e. absurd cc) refl
 row_case (bitmap r bits) = of_other (λ d e. absurd cc) (λ d u n e. absurd cc) refl
 
 -- a row is a shard, or says nothing of extents

@@ -1,12 +1,13 @@
 -- A row by its key and its value.
 use Rattle.std.proofs.Common.{◌≡◌, ℕ, List, Some, refl, sym, ap, ◌∙◌, arith}
 use Rattle.std.specs.Prelude.{unwrap_or}
-use Rattle.std.proofs.lemmas.Nat.{from_le_bytes-to_le_bytes_8}
+use Rattle.std.proofs.lemmas.Nat.{from_le_bytes-to_le_bytes_4, from_le_bytes-to_le_bytes_8}
 use Rattle.unit_fields.specs.declared.width.Width.{Width}
-use Rattle.row_format.specs.Prelude.{Row, collection, onode, shard, attribute, omap_header, omap_pair, bitmap, row_key, row_value, row_thing, row_of, FitsRow, IsOfSameThing, thing_of}
+use Rattle.row_format.specs.Prelude.{Row, collection, onode, shard, attribute, omap_header, omap_pair, blob, bitmap, row_key, row_value, row_thing, row_of, FitsRow, IsOfSameThing, thing_of}
 use Rattle.row_format.specs.Things.{Thing}
-use Rattle.row_format.proofs.ThingLemmas.{collection_again, onode_again, shard_again, attribute_again, header_again, pair_again, bitmap_again}
+use Rattle.row_format.proofs.ThingLemmas.{collection_again, onode_again, shard_again, attribute_again, header_again, pair_again, shared_again, bitmap_again}
 use Rattle.row_format.proofs.ExtentReading.{read_all}
+use Rattle.row_format.proofs.SlotReading.{slots_again}
 
 -- the key of a row names what the row is of
 pub thing_again : (w : Width) (a : Row) → FitsRow w a → thing_of (row_key a) ≡ Some (row_thing a)
@@ -16,6 +17,7 @@ thing_again w (shard c o page es) fits = shard_again c o page fits.coll_name fit
 thing_again w (attribute c o name value) fits = attribute_again c o name fits.coll_name fits.object_name
 thing_again w (omap_header c o value) fits = header_again c o fits.coll_name fits.object_name
 thing_again w (omap_pair c o key value) fits = pair_again c o key fits.coll_name fits.object_name
+thing_again w (blob sbid first slots) fits = shared_again sbid fits.number
 thing_again w (bitmap r bits) fits = bitmap_again r (omega (arith, fits.below))
 
 -- and with the value it says the row
@@ -26,6 +28,8 @@ row_again w (shard c o page es) fits = ap (λ fs. Some (shard c o page fs)) (rea
 row_again w (attribute c o name value) fits = refl
 row_again w (omap_header c o value) fits = refl
 row_again w (omap_pair c o key value) fits = refl
+row_again w (blob sbid first slots) fits =
+    λ i. Some (blob sbid (from_le_bytes-to_le_bytes_4 first fits.unit i) (slots_again w first slots fits.few fits.fit i))
 row_again w (bitmap r bits) fits = refl
 
 pub of_some : {X : Type 0} (a b : X) → Some a ≡ Some b → a ≡ b

@@ -1,6 +1,7 @@
 pub mod Keys
 pub mod Csums
 pub mod Extents
+pub mod Blobs
 pub mod Bits
 pub mod Things
 pub mod ExtentReading

@@ -1,19 +1,24 @@
 -- Which keys and values are which rows.
-use Rattle.std.proofs.Common.{◌≡◌, ◌≢◌, ◌↔◌, ℕ, ◌^◌, ◌<◌, ◌≤◌, Bool, true, false, not, IsTrue, List, Some, length, refl, sym, ap, subst, ◌∙◌}
-use Rattle.std.specs.Int.{w32, w64, to_be_bytes, from_le_bytes}
+use Rattle.std.proofs.Common.{◌≡◌, ◌≢◌, ◌↔◌, ℕ, ◌^◌, ◌<◌, ◌≤◌, Bool, true, false, not, IsTrue, List, [], ◌∷◌, ◌++◌, Some, length, append-nil, refl, sym, ap, subst, ◌∙◌, arith}
+use Rattle.std.specs.List.{flat_map}
+use Rattle.std.specs.Int.{w16, w32, w64, to_be_bytes, to_le_bytes, from_le_bytes}
+use Rattle.std.proofs.lemmas.List.{length-append}
+use Rattle.meta_rows.proofs.FieldLemmas.{number_front, wide16, wide32}
 use Rattle.unit_fields.specs.Prelude.{IsName, IsCollName}
 use Rattle.unit_fields.specs.declared.width.Width.{Width}
 use Rattle.meta_rows.specs.Prelude.{all_zero}
-use Rattle.row_format.specs.Prelude.{onode_key, shard_key, header_key, bitmap_key, Extent, BeginsAt, collection, onode, shard, attribute, omap_header, omap_pair, bitmap, an_onode, a_shard, an_omap_header, thing_of}
+use Rattle.row_format.specs.Prelude.{onode_key, shard_key, header_key, shared_key, bitmap_key, Extent, BeginsAt, Slot, slot_bytes, slots_read, collection, onode, shard, attribute, omap_header, omap_pair, blob, bitmap, an_onode, a_shard, an_omap_header, a_shared_blob, thing_of}
 use Rattle.row_format.specs.Things.{Thing}
 use Rattle.row_format.specs.Row as format
-use Rattle.row_format.proofs.Prelude.{begins_b, onode_again, shard_again, header_again, reads_row}
+use Rattle.row_format.proofs.Prelude.{begins_b, onode_again, shard_again, header_again, shared_again, reads_row}
 unfoldable use Rattle.row_format.specs.Prelude.{extents_read}
 use Rattle.onode_codec.specs.Reading.{SpellExtents}
 use Rattle.onode_codec.proofs.Again.{same_extents}
 use Rattle.row_reading.specs.declared.key.Part.TheVariants.{Onode, Shard, Attribute, OmapHeader, OmapPair}
-use Rattle.row_reading.specs.declared.key.RowKey.TheVariants.{Collection, Object, Bitmap}
+use Rattle.row_reading.specs.declared.key.RowKey.TheVariants.{Collection, Object, Blob, Bitmap}
 use Rattle.row_reading.specs.Reading.{IsNoKey, SpellsRow, IsNoRow}
+use Rattle.row_reading.specs.Slots.{slots_size, ReadsSlots, ReadsRun, BeginsWithNoRun}
+use Rattle.row_reading.proofs.SlotReading.{length-slots}
 
 -- the key of a row names something
 pub no_row : (w : Width) (key value : List ℕ) → IsNoKey key → IsNoRow w key value
@@ -27,6 +32,7 @@ no_row w key value none (omap_header c o v) s =
     none (Object c o OmapHeader) (record { fits = (s.fits.coll_name, s.fits.object_name, tt); spelled = s.key_is })
 no_row w key value none (omap_pair c o k v) s =
     none (Object c o (OmapPair k)) (record { fits = (s.fits.coll_name, s.fits.object_name, s.fits.named); spelled = s.key_is })
+no_row w key value none (blob sbid first slots) s = none (Blob sbid) (record { fits = s.fits.number; spelled = s.key_is })
 no_row w key value none (bitmap r bits) s = none (Bitmap r) (record { fits = s.fits.below; spelled = s.key_is })
 
 -- a key and a value spell no other row than the one that the value says of what the key names
@@ -61,6 +67,70 @@ module _ (w : Width) (c o : List ℕ) (coll : IsCollName c) (object : IsName o) 
   no_header value none r s =
       let is = only w (header_key c o) value (an_omap_header c o) (omap_header c o value) r (header_again c o coll object) refl s in
       none is.fits.some is.fits.short
+
+-- ---- shared blobs
+
+empty : (l : List ℕ) → length l ≡ 0 → l ≡ []
+empty [] none = refl
+empty (x ∷ l) none = absurd (omega (arith, none))
+
+module _ (w : Width) (sbid : ℕ) (below : sbid < 2 ^ 64) (value : List ℕ) where
+  abbrev there : List Slot
+  there = slots_read w value
+
+  -- a row with this key is a blob
+  only_blob : (r : format.Row) → SpellsRow w (shared_key sbid) value r → SpellsRow w (shared_key sbid) value (blob sbid (from_le_bytes w32 value) there)
+  only_blob r s =
+      only w (shared_key sbid) value (a_shared_blob sbid) (blob sbid (from_le_bytes w32 value) there) r (shared_again sbid below) refl s
+
+  pub no_run : BeginsWithNoRun value → IsNoRow w (shared_key sbid) value
+  no_run none r s =
+      let is = only_blob r s in
+      none (from_le_bytes w32 value) (length there) (flat_map (slot_bytes w) there)
+      (record { unit = is.fits.unit; some = is.fits.some; few = is.fits.few }) is.value_is
+
+  module _ (mid : List ℕ) (first count : ℕ) (run : ReadsRun value mid first count) where
+    -- behind the run there are the bytes of as many slots
+    bytes_behind : (r : format.Row) → SpellsRow w (shared_key sbid) value r → length mid ≡ slots_size w count
+    bytes_behind r s =
+        let is = only_blob r s in
+        let one = number_front w32 (2 ^ 32) wide32 first (from_le_bytes w32 value) (to_le_bytes w16 count ++ mid)
+        (to_le_bytes w16 (length there) ++ flat_map (slot_bytes w) there) run.run.unit is.fits.unit (sym run.spelled ∙ is.value_is) in
+        let two = number_front w16 (2 ^ 16) wide16 count (length there) mid (flat_map (slot_bytes w) there) (omega (arith, run.run.few))
+        (omega (arith, is.fits.few)) one.1 in
+        ap length two.1 ∙ length-slots w there ∙ ap (slots_size w) (sym two.0)
+
+    pub few_slots : length mid < slots_size w count → IsNoRow w (shared_key sbid) value
+    few_slots few r s = absurd (omega (arith, few, bytes_behind r s))
+
+    module _ (new : List ℕ) (xs : List Slot) (slots : ReadsSlots w count mid new xs) where
+      pub more_bytes : new ≢ [] → IsNoRow w (shared_key sbid) value
+      more_bytes some r s =
+          let none : length new ≡ 0 = omega (
+            arith,
+            bytes_behind r s,
+            ap length slots.spelled,
+            length-append (flat_map (slot_bytes w) xs) new,
+            length-slots w xs,
+            ap (slots_size w) slots.size,
+          ) in
+          some (empty new none)
+
+      pub is_blob : new ≡ [] → SpellsRow w (shared_key sbid) value (blob sbid first xs)
+      is_blob none = record {
+        fits = record {
+          number = below;
+          unit = run.run.unit;
+          some = omega (arith, slots.size, run.run.some);
+          few = omega (arith, slots.size, run.run.few);
+          fit = slots.fit;
+        };
+        key_is = refl;
+        value_is = run.spelled
+            ∙ ap (λ (l : List ℕ). to_le_bytes w32 first ++ (to_le_bytes w16 count ++ l))
+            (slots.spelled ∙ ap (λ (l : List ℕ). flat_map (slot_bytes w) xs ++ l) none ∙ append-nil (flat_map (slot_bytes w) xs))
+            ∙ ap (λ (n : ℕ). to_le_bytes w32 first ++ (to_le_bytes w16 n ++ flat_map (slot_bytes w) xs)) (sym slots.size);
+      }
 
 -- a value that isn't 16 bytes, or has no byte other than zero
 pub no_bits : (w : Width) (row : ℕ) (value : List ℕ) → ((length value ≡ 16) → (all_zero value ≡ false) → ⊥) → IsNoRow w (bitmap_key row) value

@@ -3,12 +3,12 @@ use Rattle.std.specs.Prelude.{◌≡◌, ℕ, ◌<◌, ◌^◌, List, [], ◌∷
 use Rattle.std.specs.Int.{w32, to_be_bytes}
 use Rattle.unit_fields.specs.Prelude.{IsName, IsCollName}
 use Rattle.unit_fields.specs.declared.width.Width.{Width}
-use Rattle.row_format.specs.Prelude.{coll_key, object_key, bitmap_key, bit_rows}
+use Rattle.row_format.specs.Prelude.{coll_key, object_key, shared_key, bitmap_key, bit_rows}
 use Rattle.row_format.specs.Row as format
 use Rattle.row_reading.specs.declared.key.Part.{Part}
 use Rattle.row_reading.specs.declared.key.Part.TheVariants.{Onode, Shard, Attribute, OmapHeader, OmapPair}
 use Rattle.row_reading.specs.declared.key.RowKey.{RowKey}
-use Rattle.row_reading.specs.declared.key.RowKey.TheVariants.{Collection, Object, Bitmap}
+use Rattle.row_reading.specs.declared.key.RowKey.TheVariants.{Collection, Object, Blob, Bitmap}
 use Rattle.row_reading.specs.declared.row.Row as row
 use Rattle.row_reading.specs.declared.row.Row.TheVariants as rows
 
@@ -48,11 +48,13 @@ IsNoPart kind bytes = (part : Part) → ¬ IsPart kind bytes part
 abbrev pub spelled_key : RowKey → List ℕ
 spelled_key (Collection c) = coll_key c
 spelled_key (Object c o part) = object_key (part_kind part) c o (part_bytes part)
+spelled_key (Blob sbid) = shared_key sbid
 spelled_key (Bitmap r) = bitmap_key r
 
 abbrev pub FitsKey : RowKey → Type 0
 FitsKey (Collection c) = IsCollName c
 FitsKey (Object c o part) = IsCollName c × IsName o × FitsPart part
+FitsKey (Blob sbid) = sbid < 2 ^ 64
 FitsKey (Bitmap r) = r < bit_rows
 
 -- the bytes are the key of this
@@ -79,6 +81,7 @@ format_row (rows.Shard c o page extents) value = format.shard c o page extents
 format_row (rows.Attribute c o name) value = format.attribute c o name value
 format_row (rows.OmapHeader c o) value = format.omap_header c o value
 format_row (rows.OmapPair c o key) value = format.omap_pair c o key value
+format_row (rows.Blob sbid first slots) value = format.blob sbid first slots
 format_row (rows.Bitmap r bits) value = format.bitmap r bits
 
 -- the key and the value are the one spelling of this row, with checksums of this width

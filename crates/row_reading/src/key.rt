@@ -1,7 +1,7 @@
 //! Keys read as what they name.
-ghost use Rattle.std.specs.Prelude.{◌≡◌, ◌≢◌, ◌<◌, ◌++◌, ◌∷◌, ℕ, length, slice_index, IfOk, IfNone, IfSome, MatchOption};
+ghost use Rattle.std.specs.Prelude.{◌≡◌, ◌≢◌, ◌^◌, ◌<◌, ◌++◌, ◌∷◌, ℕ, length, slice_index, IfOk, IfNone, IfSome, MatchOption};
 ghost use Rattle.std.specs.List.{AllByRecursion};
-ghost use Rattle.std.specs.Int.{w32, to_be_bytes};
+ghost use Rattle.std.specs.Int.{w32, w64, to_be_bytes};
 ghost use Rattle.unit_fields.specs.Prelude.{IsCollName};
 ghost use Rattle.row_reading.specs.Reading.{IsPart, IsNoPart, IsNoObject, IsNoKey, SpellsObject, SpellsKey};
 
@@ -18,6 +18,8 @@ pub const OBJECT: u8 = RowKind::Object as u8;
 const ATTRIBUTE: u8 = RowKind::Attribute as u8;
 
 const OMAP: u8 = RowKind::Omap as u8;
+
+const BLOB: u8 = RowKind::Shared as u8;
 
 const BITMAP: u8 = RowKind::Bitmap as u8;
 
@@ -61,6 +63,10 @@ pub enum RowKey {
         coll: CollName,
         object: Name,
         part: Part,
+    },
+    /// A shared blob.
+    Blob {
+        sbid: u64,
     },
     /// The bits of 128 units of the freelist.
     Bitmap {
@@ -188,6 +194,16 @@ fn read_object(
     Ok(Some(RowKey::Object { coll, object, part }))
 }
 
+// The number of the shared blob whose key has these bytes behind its first.
+fn read_sbid(bytes: &[u8]) -> Option<u64>
+    ensures { MatchOption result ((sbid : ℕ) → sbid < 2 ^ 64 → bytes.now ≢ to_be_bytes w64 sbid)
+        (λ sbid. (sbid < 2 ^ 64) × (bytes.now ≡ to_be_bytes w64 sbid)) }
+{
+    let mut fields = Fields::new(bytes);
+    let sbid = fields.u64_be()?;
+    if fields.is_empty() { Some(sbid) } else { None }
+}
+
 // The number of the bitmap's row whose key has these bytes behind its first.
 fn read_bit_row(bytes: &[u8]) -> Option<u32>
     ensures { MatchOption result ((row : ℕ) → row < 33554432 → bytes.now ≢ to_be_bytes w32 row)
@@ -223,6 +239,10 @@ pub fn read_key_after(
     match *kind {
         COLLECTION => match CollName::read(alloc, rest)? {
             Some(coll) => Ok(Some(RowKey::Collection { coll })),
+            None => Ok(None),
+        },
+        BLOB => match read_sbid(rest) {
+            Some(sbid) => Ok(Some(RowKey::Blob { sbid })),
             None => Ok(None),
         },
         BITMAP => match read_bit_row(rest) {

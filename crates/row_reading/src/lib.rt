@@ -7,6 +7,8 @@
 
 mod key;
 mod row;
+mod slots;
 
 pub use key::{OBJECT, Part, RowKey, read_key, read_key_after};
 pub use row::{Row, read_row, read_row_after};
+pub use slots::Slot;

@@ -5,15 +5,16 @@ ghost use Rattle.std.specs.Prelude.{◌≡◌, ◌↔◌, ◌<◌, ◌≤◌, fa
 ghost use Rattle.meta_rows.specs.Prelude.{all_zero};
 ghost use Rattle.unit_fields.specs.Prelude.{IsName, IsCollName};
 ghost use Rattle.unit_fields.specs.declared.width.Width.{Width};
-ghost use Rattle.row_format.specs.Prelude.{onode_key, shard_key, attr_key, header_key, omap_key, bitmap_key, BeginsAt};
+ghost use Rattle.row_format.specs.Prelude.{onode_key, shard_key, attr_key, header_key, omap_key, shared_key, bitmap_key, BeginsAt};
 ghost use Rattle.row_reading.specs.Reading.{format_row, SpellsRow, IsNoRow};
 
 use crate::key::{Part, RowKey, read_key_after};
+use crate::slots::{Slot, read_run, read_slots};
 use byte_maps::{Bytes, Items, is_zero};
 use onode_codec::{Extent, Onode, decode_extents};
 use std::alloc::{AllocError, Global};
 use unit_fields::limits::VALUE_LIMIT;
-use unit_fields::{CollName, Name, Width};
+use unit_fields::{CollName, Fields, Name, UnitNo, Width};
 
 // The bytes of a row of the bitmap.
 const ROW_BYTES: usize = 16;
@@ -55,6 +56,12 @@ pub enum Row {
         coll: CollName,
         object: Name,
         key: Name,
+    },
+    /// These are the slots of a shared blob, on consecutive units from this one on.
+    Blob {
+        sbid: u64,
+        first: UnitNo,
+        slots: Items<Slot>,
     },
     /// These are the bits of 128 units of the freelist.
     Bitmap {
@@ -174,6 +181,30 @@ fn read_pair(coll: CollName, object: Name, key: Name, value: &[u8]) -> Option<Ro
     Some(Row::OmapPair { coll, object, key })
 }
 
+// The row of a shared blob with this value.
+fn read_blob(
+    alloc: Global,
+    width: Width,
+    sbid: u64,
+    value: &[u8],
+) -> Result<Option<Row>, AllocError>
+    ensures { IfOk result (λ found. MatchOption found (IsNoRow width (shared_key sbid) value.now)
+        (λ row. SpellsRow width (shared_key sbid) value.now (format_row row value.now))) }
+{
+    let mut fields = Fields::new(value);
+    let Some(units) = read_run(&mut fields) else {
+        return Ok(None);
+    };
+    let Some(slots) = read_slots(alloc, width, &mut fields, units.count)? else {
+        return Ok(None);
+    };
+    if !fields.is_empty() {
+        return Ok(None);
+    }
+    let first = units.first;
+    Ok(Some(Row::Blob { sbid, first, slots }))
+}
+
 // Whether this is the value of a row of the bitmap.
 fn are_bits(value: &[u8]) -> bool
     ensures { IsTrue result ↔ ((length value.now ≡ 16) × (all_zero value.now ≡ false)) }
@@ -230,6 +261,7 @@ pub fn read_row_after(
             Part::OmapHeader => Ok(read_header(coll, object, value)),
             Part::OmapPair { key } => Ok(read_pair(coll, object, key, value)),
         },
+        Some(RowKey::Blob { sbid }) => read_blob(alloc, width, sbid, value),
         Some(RowKey::Bitmap { row }) => read_bits(alloc, row, value),
     }
 }

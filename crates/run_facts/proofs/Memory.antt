@@ -7,9 +7,8 @@ use Rattle.std.proofs.lemmas.List.Concat.{flat_map-append}
 use Rattle.std.proofs.lemmas.List.Elements.{Contains-append_left}
 use Rattle.std.proofs.Math.Path.{fun_ext}
 use Rattle.store_image.specs.Prelude.{HasPage}
-use Rattle.store_image.proofs.Prelude.{page_owned}
 use Rattle.unit_allocator.proofs.FreeUnits.{listed_is_within}
-use Rattle.plan_rows.proofs.OnData.{owned_on_data}
+use Rattle.plan_rows.proofs.OnData.{page_on_data as data_unit_of}
 use Rattle.store_steps.specs.Prelude.{Batch, State, with_context, given_more, choice, left_by, most_grouped, data_sent, reaped, taken_up, committed_batch, context_of, accepted_with, Accepts, Intent, intents, intent_of, uncommitted, all_fresh, bytes_in, memory_of}
 use Rattle.space_facts.proofs.Prelude.{in_or_not, times, listed_is_idle, taken_busy}
 use Rattle.flight_facts.specs.Prelude.{IsNone, FitsRecord}
@@ -111,8 +110,7 @@ module _ (s : State) (d : Disk) (kept : IsKept s d) (up : s.down ≡ None) where
 
   -- a unit of a page is a data unit
   pub page_on_data : (unit : ℕ) → HasPage (width_of s.log.sup) s.submitted unit → IsDataUnit s.log.sup unit
-  page_on_data unit has = owned_on_data s.log.sup s.submitted unit (kept_submitted s d kept up).good
-      (page_owned (width_of s.log.sup) s.submitted unit has)
+  page_on_data unit has = data_unit_of s.log.sup s.submitted unit (kept_submitted s d kept up).good has
 
   -- one that isn't in memory is in no flight, so that it can be read
   pub readable_now : (unit : ℕ) → HasPage (width_of s.log.sup) s.submitted unit → memory_of s unit ≡ None → IsUntouched d.flights unit

@@ -1,7 +1,7 @@
 -- What a run of `fsck` prints: a function of what it found, or of why it found nothing.
 use Rattle.std.specs.Prelude.{ℕ, false, List, [], ◌∷◌, ◌++◌, length, map, Result, Ok, Err, codes, decimal}
 use Rattle.findings.specs.declared.finding.Finding.{Finding}
-use Rattle.findings.specs.declared.finding.Finding.TheVariants.{BadRow, BadSum, Leaked, Unmarked, Doubled}
+use Rattle.findings.specs.declared.finding.Finding.TheVariants.{BadRow, BadSum, Leaked, Unmarked, Doubled, WrongCount}
 use Rattle.run_texts.specs.declared.work_end.WorkEnd.{WorkEnd}
 use Rattle.run_texts.specs.Hex.{hex_text, hex_sum}
 use Rattle.run_texts.specs.StepTexts.{fail_lines, end_status}
@@ -14,6 +14,7 @@ finding_line (BadSum unit kept found) = codes "BadSum unit=" ++ decimal unit ++ 
 finding_line (Leaked unit) = codes "Leaked unit=" ++ decimal unit
 finding_line (Unmarked unit) = codes "Unmarked unit=" ++ decimal unit
 finding_line (Doubled unit) = codes "Doubled unit=" ++ decimal unit
+finding_line (WrongCount unit kept counted) = codes "WrongCount unit=" ++ decimal unit ++ codes " kept=" ++ decimal kept ++ codes " counted=" ++ decimal counted
 
 abbrev pub finding_lines : List Finding → List (List ℕ)
 finding_lines found = map finding_line found

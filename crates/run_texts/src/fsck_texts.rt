@@ -33,6 +33,19 @@ fn push_sums<K: Sink>(text: &mut Printer, out: &mut K, unit: u32, kept: u32, fou
     push_hex_sum(text, out, found)
 }
 
+/// Adds the unit of a slot with the count that is kept for it, and how many pages name it.
+fn push_counts<K: Sink>(text: &mut Printer, out: &mut K, unit: u32, kept: u32, counted: u64)
+    ensures { AddsText (codes "WrongCount unit=" ++ decimal unit ++ codes " kept=" ++ decimal kept ++ codes " counted=" ++ decimal counted) text.old text.new
+        (output (K.written out.old) (K.faults out.old)) (output (K.written out.new) (K.faults out.new)) }
+{
+    text.push_str(out, "WrongCount unit=");
+    text.push_number(out, unit as u64);
+    text.push_str(out, " kept=");
+    text.push_number(out, kept as u64);
+    text.push_str(out, " counted=");
+    text.push_number(out, counted)
+}
+
 /// Adds a unit behind words for what is wrong with it.
 fn push_unit<K: Sink>(text: &mut Printer, out: &mut K, words: &str, unit: u32)
     ensures { AddsText (words.now ++ decimal unit) text.old text.new
@@ -53,6 +66,11 @@ fn push_words<K: Sink>(text: &mut Printer, out: &mut K, finding: &Finding)
         Finding::Leaked { unit } => push_unit(text, out, "Leaked unit=", *unit),
         Finding::Unmarked { unit } => push_unit(text, out, "Unmarked unit=", *unit),
         Finding::Doubled { unit } => push_unit(text, out, "Doubled unit=", *unit),
+        Finding::WrongCount {
+            unit,
+            kept,
+            counted,
+        } => push_counts(text, out, *unit, *kept, *counted),
     }
 }
 

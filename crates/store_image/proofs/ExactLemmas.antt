@@ -7,6 +7,7 @@ use Rattle.meta_log.specs.Prelude.{AreRowsOf, width_of, IsActiveSlot}
 use Rattle.meta_log.proofs.SlotLemmas.{same_active}
 use Rattle.store_image.specs.Prelude.{IsLeaked, IsExactBut, IsExactAs, IsInexact, IsExactImageBut, IsExactImage, IsLeakedIn, StaysExact}
 use Rattle.store_image.proofs.OneObjects.{same_rows}
+use Rattle.store_image.proofs.Counting.{one_count}
 
 -- ---- rows
 
@@ -18,6 +19,7 @@ renamed w leaked others rows there exact = record {
       (λ was. inr (there unit (record { is_unit = small; marked = is; unowned = was.1 }) was.0, was.1)) (exact.marked unit small is);
   owned_marked = exact.owned_marked;
   one_owner = exact.one_owner;
+  counts = exact.counts;
 }
 
 pub as_itself : (w : Width) (leaked : ℕ → Type 0) (rows : Rows) → IsExactBut w leaked rows → IsExactAs w rows rows
@@ -26,6 +28,7 @@ as_itself w leaked rows exact = record {
       (λ was. inr (record { is_unit = small; marked = is; unowned = was.1 }, was.1)) (exact.marked unit small is);
   owned_marked = exact.owned_marked;
   one_owner = exact.one_owner;
+  counts = exact.counts;
 }
 
 -- a marked unit that nobody owns is one of those that are left out
@@ -40,7 +43,9 @@ exact_onward w first rows later exact more =
     renamed w (IsLeaked w rows) (IsLeaked w first) later (λ unit _ is. no_new_leaks w first rows unit exact is) more
 
 pub no_inexact : (w : Width) (leaked : ℕ → Type 0) (rows : Rows) → IsExactBut w leaked rows → (unit : ℕ) → ¬ IsInexact w rows unit
-no_inexact w leaked rows exact unit is = ⊎_elim (λ x. x.1 (exact.owned_marked unit x.0)) (λ x. x (exact.one_owner unit)) is
+no_inexact w leaked rows exact unit is = ⊎_elim (λ x. x.1 (exact.owned_marked unit x.0))
+    (λ more. ⊎_elim (λ x. x (exact.one_owner unit))
+    (λ x. x.differs (one_count w rows x.sbid x.index x.counted x.is.count x.is_counted (exact.counts x.sbid x.index unit x.is x.has_slot))) more) is
 
 -- ---- images
 

@@ -3,6 +3,9 @@ pub mod OneObjects
 pub mod OwnedUnits
 pub mod InPlace
 pub mod PageMap
+pub mod Counting
+pub mod ShareLemmas
+pub mod NameLemmas
 pub mod PageUnits
 pub mod ChanceLemmas
 pub mod StartLemmas

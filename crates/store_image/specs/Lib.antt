@@ -1,6 +1,8 @@
 pub mod Pages
 pub mod BadRows
 pub mod Owners
+pub mod Sharing
+pub mod Naming
 pub mod Exact
 pub mod Stands
 pub mod Chance

@@ -1,10 +1,10 @@
 -- Rows by what they say, and the page map of an object. No row tells how wide the checksums of pages are: the width comes from the superblock.
-use Rattle.std.specs.Prelude.{◌≡◌, ℕ, ◌+◌, ◌/◌, List, Some, IsSome}
+use Rattle.std.specs.Prelude.{◌≡◌, ℕ, ◌+◌, ◌/◌, List, Some, IsSome, slice_get}
 use Rattle.std.specs.Int.{w64, to_le_bytes}
 use Rattle.std.specs.FinMap as map
 use Rattle.unit_fields.specs.declared.width.Width.{Width}
 use Rattle.meta_rows.specs.Prelude.{Rows}
-use Rattle.row_format.specs.Prelude.{onode_key, Extent, Place, own, place_of, Row, shard, row_key, row_value, FitsRow, FitsOnode}
+use Rattle.row_format.specs.Prelude.{onode_key, Extent, Place, own, slot, place_of, Slot, Row, shard, blob, row_key, row_value, FitsRow, FitsOnode}
 
 -- a row stands under the key, whatever it says
 abbrev pub HasKey : Rows → List ℕ → Type 0
@@ -15,7 +15,7 @@ pub record HasValue (rows : Rows) (key value : List ℕ) (Fits : Type 0) : Type 
   pub fits : Fits
   pub stands : map.get rows key ≡ Some value
 
--- the rows say this, with checksums of this width in shards
+-- the rows say this, with checksums of this width in shards and in blobs
 abbrev pub HasRow : Width → Rows → Row → Type 0
 HasRow w rows row = HasValue rows (row_key row) (row_value w row) (FitsRow w row)
 
@@ -39,15 +39,24 @@ pub record PageUnit : Type 0 where
   pub unit : ℕ
   pub csum : ℕ
 
--- where a place is: at its own unit (that of a slot is to be what the rows say of its blob)
-abbrev pub StandsOn : Rows → Place → PageUnit → Type 0
-StandsOn rows (own unit csum) on = on ≡ record { unit = unit; csum = csum }
+-- a blob has the slot, which is at this unit
+pub record HasSlot (w : Width) (rows : Rows) (sbid index at : ℕ) (is : Slot) : Type 0 where
+  pub first : ℕ
+  pub slots : List Slot
+  pub has_blob : HasRow w rows (blob sbid first slots)
+  pub there : slice_get slots index ≡ Some is
+  pub at_is : at ≡ first + index
+
+-- where a place is: at its own unit, or at that of the slot, as the blob's row says it
+abbrev pub StandsOn : Width → Rows → Place → PageUnit → Type 0
+StandsOn w rows (own unit csum) on = on ≡ record { unit = unit; csum = csum }
+StandsOn w rows (slot sbid index) on = (is : Slot) × (HasSlot w rows sbid index on.unit is × (is.csum ≡ on.csum))
 
 -- the page stands on this unit
 pub record IsPageOn (w : Width) (rows : Rows) (c o : List ℕ) (page : ℕ) (on : PageUnit) : Type 0 where
   pub place : Place
   pub at : IsPageAt w rows c o page place
-  pub stands : StandsOn rows place on
+  pub stands : StandsOn w rows place on
 
 -- a page of an object stands on the unit
 pub record HasPage (w : Width) (rows : Rows) (unit : ℕ) : Type 0 where

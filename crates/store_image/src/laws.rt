@@ -12,7 +12,9 @@ ghost use Rattle.meta_log.specs.Prelude.{IsActiveSlot, width_of, AreRowsOf};
 ghost use Rattle.row_format.specs.Prelude.{Place};
 ghost use Rattle.store_image.specs.Pages.{IsPageAt, PageUnit, StandsOn, IsPageOn, HasPage};
 ghost use Rattle.store_image.specs.BadRows.{IsBadRow, NoBadRow};
-ghost use Rattle.store_image.specs.Owners.{IsOwned, IsLeaked, IsExactAs, IsInexact};
+ghost use Rattle.store_image.specs.Owners.{IsOwned, IsLeaked, IsExactAs, IsInexact, PageName, IsCounted, CountsAreExact};
+ghost use Rattle.store_image.specs.Sharing.{BecomeSlots};
+ghost use Rattle.store_image.specs.Naming.{NamesOneMore, NamesOneLess};
 ghost use Rattle.store_image.specs.Exact.{IsExactImageBut, IsExactImage, IsLeakedIn, StaysExact};
 ghost use Rattle.store_image.specs.Chance.{NoChanceMatch, NoTornMatch};
 ghost use Rattle.store_image.specs.Durability.{IsStart, EachCutStands};
@@ -29,14 +31,33 @@ pub fn only_units_with_pages_matter()
         ((unit : ℕ) → HasPage w rows unit → at unit ≡ at' unit) → ObjectsStand w at rows objects → ObjectsStand w at' rows objects }
 {}
 
-/// Units on which pages stand have owners, and the others have none.
+/// Where counts are exact, units on which pages stand have owners, and the others have none.
 pub fn units_with_pages_are_owned()
-    ensures { (w : Width) (rows : Rows) (unit : ℕ) → HasPage w rows unit ↔ IsOwned w rows unit }
+    ensures { (w : Width) (first rows : Rows) (unit : ℕ) → IsExactAs w first rows → HasPage w rows unit ↔ IsOwned w rows unit }
+{}
+
+/// A slot has one count.
+pub fn one_count_for_a_slot()
+    ensures { (w : Width) (rows : Rows) (sbid index n m : ℕ) → IsCounted w rows sbid index n → IsCounted w rows sbid index m → n ≡ m }
+{}
+
+/// Where pages that stood on units of their own become slots of a new blob, rows are as exact as before.
+pub fn shared_pages_stay_exact()
+    ensures { (w : Width) (first rows later : Rows) (c o : List ℕ) (from unit count sbid : ℕ)
+        → BecomeSlots w rows later c o from unit count sbid → IsExactAs w first rows → IsExactAs w first later }
+{}
+
+/// Counts stay exact where one page more names a slot, whose count is one more then, and where one less does.
+pub fn counts_follow_names()
+    ensures more { (w : Width) (rows later : Rows) (page : PageName) (sbid index count : ℕ) → NamesOneMore w rows later page sbid index count
+        → CountsAreExact w rows → CountsAreExact w later }
+    ensures less { (w : Width) (rows later : Rows) (page : PageName) (sbid index count : ℕ) → NamesOneLess w rows later page sbid index count
+        → CountsAreExact w rows → CountsAreExact w later }
 {}
 
 /// A place is at one unit at most.
 pub fn one_unit_for_a_place()
-    ensures { (rows : Rows) (place : Place) (a b : PageUnit) → StandsOn rows place a → StandsOn rows place b → a ≡ b }
+    ensures { (w : Width) (rows : Rows) (place : Place) (a b : PageUnit) → StandsOn w rows place a → StandsOn w rows place b → a ≡ b }
 {}
 
 /// On good rows a page that has a place stands on a unit.

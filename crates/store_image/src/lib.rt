@@ -7,7 +7,7 @@
 mod laws;
 
 pub use laws::{
-    exact_images, exact_rows, good_rows_have_no_bad_one, one_place_for_a_page,
-    one_unit_for_a_place, only_units_with_pages_matter, pages_decide_bytes, placed_pages_stand,
-    stands_for_one, units_with_pages_are_owned,
+    counts_follow_names, exact_images, exact_rows, good_rows_have_no_bad_one, one_count_for_a_slot,
+    one_place_for_a_page, one_unit_for_a_place, only_units_with_pages_matter, pages_decide_bytes,
+    placed_pages_stand, shared_pages_stay_exact, stands_for_one, units_with_pages_are_owned,
 };

@@ -42,9 +42,9 @@ pub record IsIdle (op : Op) (d : CollDraft) : Type 0 where
 pub idle_by : (op : Op) (d : CollDraft) → edit_on op (d.layout (object_of op)) ≡ None → IsIdle op d
 idle_by op d none = record {
   units = ap (λ (e : Option Edit). option_map_or (λ e. length (pages_taking e (or_new (d.layout (object_of op))))) e 0) none;
-  places = ap (λ (e : Option Edit). option_map_or (λ e. places_read e (or_new (d.layout (object_of op)))) e []) none;
+  places = ap (λ (e : Option Edit). option_map_or (λ e. places_read d.on e (or_new (d.layout (object_of op)))) e []) none;
   writes = λ read held.
-      ap (λ (e : Option Edit). with_writes (option_map_or (λ e. writes_of e read held d.taken (or_new (d.layout (object_of op)))) e []) held) none;
+      ap (λ (e : Option Edit). with_writes (option_map_or (λ e. writes_of d.on e read held d.taken (or_new (d.layout (object_of op)))) e []) held) none;
 }
 
 pub nothing_added : (ops : List Op) (op : Op) (d : CollDraft) (old new : Planning) → IsIdle op d → new.writes.items ≡ old.writes.items
@@ -73,7 +73,7 @@ module _ (ops : List Op) (op : Op) (at : ℕ) (d : CollDraft) (lt : at < length 
   abbrev e : Edit
   e = edit_of op (or_new x).size
 
-  pub edit_added : (old new : Planning) (edited : Edited) → edit_on op x ≡ Some e → TellsEdit op at d.taken (or_new x) edited → old.taken ≡ d.taken
+  pub edit_added : (old new : Planning) (edited : Edited) → edit_on op x ≡ Some e → TellsEdit d.on op at d.taken (or_new x) edited → old.taken ≡ d.taken
       → AddsEdit edited old new → Adds ops op d old new
   edit_added old new edited edits tells same adds = record {
     taken = omega (
@@ -84,12 +84,12 @@ module _ (ops : List Op) (op : Op) (at : ℕ) (d : CollDraft) (lt : at < length 
       ap (λ (e : Option Edit). option_map_or (λ e. length (pages_taking e (or_new x))) e 0) edits,
     );
     places = adds.places ∙ ap (λ l. old.places.items ++ l)
-        (tells.places ∙ sym (ap (λ (e : Option Edit). option_map_or (λ e. places_read e (or_new x)) e []) edits));
+        (tells.places ∙ sym (ap (λ (e : Option Edit). option_map_or (λ e. places_read d.on e (or_new x)) e []) edits));
     writes = edited.writes;
     are = adds.writes;
     made = λ read held whole.
-        operation_made ops at op read held d.taken (or_new x) edited.writes op_is tells.of num
+        operation_made d.on ops at op read held d.taken (or_new x) edited.writes op_is tells.of num
         (tells.writes read held (whole_of held d (object_of op) name whole x refl))
-        ∙ sym (ap (λ (e : Option Edit). with_writes (option_map_or (λ e. writes_of e read held d.taken (or_new x)) e []) held) edits);
+        ∙ sym (ap (λ (e : Option Edit). with_writes (option_map_or (λ e. writes_of d.on e read held d.taken (or_new x)) e []) held) edits);
     can = subst (λ n. AllByRecursion (CanBeMade ops n) edited.writes) (sym adds.taken) (tells.can ops lt op_is num);
   }

@@ -41,32 +41,32 @@ ground_there w rows good change coll known small =
     )
 
 module _ (w : Width) (rows : Rows) (good : AreRowsOfWidth w rows) (change : Change) (layouts : List ℕ → Option Layout) (ground : IsGround w change rows layouts) where
-  pub is_refused_by : (refusal : Refusal) → AreRefused change.ops (first_draft rows change.coll layouts) refusal → IsRefusedBy rows (ask.Change change) refusal
+  pub is_refused_by : (refusal : Refusal) → AreRefused change.ops (first_draft w rows change.coll layouts) refusal → IsRefusedBy rows (ask.Change change) refusal
   is_refused_by refusal are objects shape = ap accepted_if (small_submitted change objects ground.small
-      ∙ refused_by good.store.sup rows objects change layouts (first_draft rows change.coll layouts) good.store.good ground.coll
+      ∙ refused_by good.store.sup rows objects change layouts (first_draft w rows change.coll layouts) good.store.good ground.coll
       (begins w rows good change layouts ground (width_of good.store.sup) good.wide) shape refusal are)
 
   is_taken_so : (r : Result Objects Refusal) → is_ok r ≡ true → IsTrue (not (is_refused (accepted_if r)))
   is_taken_so (Ok objects) is = refl
   is_taken_so (Err refusal) is = absurd cc
 
-  pub is_not_refused : AreTaken change.ops (first_draft rows change.coll layouts) → IsNotRefused rows (ask.Change change)
+  pub is_not_refused : AreTaken change.ops (first_draft w rows change.coll layouts) → IsNotRefused rows (ask.Change change)
   is_not_refused are objects shape = is_taken_so (submitted_effect change objects) (ap is_ok (small_submitted change objects ground.small)
-      ∙ taken_by good.store.sup rows objects change layouts (first_draft rows change.coll layouts) good.store.good ground.coll
+      ∙ taken_by good.store.sup rows objects change layouts (first_draft w rows change.coll layouts) good.store.good ground.coll
       (begins w rows good change layouts ground (width_of good.store.sup) good.wide) shape are)
 
   pub asks_by : (p : Planning) → IsPlannedTo w change rows layouts (length change.ops) p → AsksFor w change rows p.taken p.places.items
   asks_by p is = record {
     layouts = layouts;
-    start = first_draft rows change.coll layouts;
+    start = first_draft w rows change.coll layouts;
     begins = begins w rows good change layouts ground w refl;
     taken = all_are_taken p is;
-    need_is = is.state.taken ∙ ap (λ ops. (with_ops ops (first_draft rows change.coll layouts)).taken) (all_taken change.ops);
-    places_are = is.places ∙ ap (λ ops. places_of ops (first_draft rows change.coll layouts)) (all_taken change.ops);
+    need_is = is.state.taken ∙ ap (λ ops. (with_ops ops (first_draft w rows change.coll layouts)).taken) (all_taken change.ops);
+    places_are = is.places ∙ ap (λ ops. places_of ops (first_draft w rows change.coll layouts)) (all_taken change.ops);
   }
     where
-      all_are_taken : (p : Planning) → IsPlannedTo w change rows layouts (length change.ops) p → AreTaken change.ops (first_draft rows change.coll layouts)
-      all_are_taken p is = subst (λ ops. AreTaken ops (first_draft rows change.coll layouts)) (all_taken change.ops) is.taken
+      all_are_taken : (p : Planning) → IsPlannedTo w change rows layouts (length change.ops) p → AreTaken change.ops (first_draft w rows change.coll layouts)
+      all_are_taken p is = subst (λ ops. AreTaken ops (first_draft w rows change.coll layouts)) (all_taken change.ops) is.taken
 
 module _ (w : Width) (rows : Rows) (good : AreRowsOfWidth w rows) (change : Change) (coll : IsCollName change.coll) (known : IsKnown change.ops)
     (small : is_too_large change ≡ false) (space : Space) where
@@ -83,7 +83,7 @@ module _ (w : Width) (rows : Rows) (good : AreRowsOfWidth w rows) (change : Chan
     asks_now = asks_by w rows good change g.0 g.1 p (planned g.0 g.1)
 
     not_refused_now : IsNotRefused rows (ask.Change change)
-    not_refused_now = is_not_refused w rows good change g.0 g.1 (subst (λ ops. AreTaken ops (first_draft rows change.coll g.0)) (all_taken change.ops)
+    not_refused_now = is_not_refused w rows good change g.0 g.1 (subst (λ ops. AreTaken ops (first_draft w rows change.coll g.0)) (all_taken change.ops)
         (planned g.0 g.1).taken)
 
     pub draft_is : (draft : TxnDraft) → draft.planning ≡ p → p.taken ≤ length (free_units space) → draft.units.items ≡ take p.taken (free_units space)

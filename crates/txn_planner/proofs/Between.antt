@@ -9,7 +9,7 @@ use Rattle.unit_fields.specs.declared.width.Width.{Width}
 use Rattle.number_map.proofs.Places.{both_first, both_second}
 use Rattle.number_map.proofs.Search.{cmp_equal, cmp_less, cmp_greater, less_is}
 use Rattle.meta_rows.specs.Prelude.{Rows}
-use Rattle.row_format.specs.Prelude.{Place, own}
+use Rattle.row_format.specs.Prelude.{Place, own, slot}
 use Rattle.store_image.specs.Prelude.{IsPageAt, page_of, Owns, HasSoleOwner}
 use Rattle.blob_map.specs.Prelude.{PageMap}
 use Rattle.plan_drafts.specs.Prelude.{IsMapOf, units_released, StandsOnce}
@@ -115,20 +115,24 @@ module _ (w : Width) (test : ℕ → Bool) where
   abbrev front : ℕ × Place → List (ℕ × Place) → Bool → List ℕ
   front e es b = flat_map (λ p. units_released p.1) (cond b (e ∷ where_key nat_cmp test es) (where_key nat_cmp test es))
 
+  behind : (e : ℕ × Place) (es : List (ℕ × Place)) (v : ℕ) → Stands es v → Stands (e ∷ es) v
+  behind e es v x = record { page = x.page; csum = x.csum; there = inr x.there; inside = x.inside }
+
   pub unit_stands : (es : List (ℕ × Place)) (v : ℕ) → In (units_in es) v → Stands es v
   unit_stands [] v h = absurd h
+  unit_stands ((n, slot sbid index) ∷ es) v h = elim (cases_Bool (test n)) [
+    | inl is ↦ behind (n, slot sbid index) es v (unit_stands es v (subst (λ b. In (front (n, slot sbid index) es b) v) is h))
+    | inr is ↦ behind (n, slot sbid index) es v (unit_stands es v (subst (λ b. In (front (n, slot sbid index) es b) v) is h))
+  ]
   unit_stands ((n, own w k) ∷ es) v h = elim (cases_Bool (test n)) [
     | inl is ↦
         let either : (w ≡ v) ⊎ In (units_in es) v = subst (λ b. In (front (n, own w k) es b) v) is h in
         elim either [
           | inl same ↦ record { page = n; csum = k; there = inl (ap (λ x. (n, own x k)) same); inside = is }
-          | inr later ↦ behind (unit_stands es v later)
+          | inr later ↦ behind (n, own w k) es v (unit_stands es v later)
         ]
-    | inr is ↦ behind (unit_stands es v (subst (λ b. In (front (n, own w k) es b) v) is h))
+    | inr is ↦ behind (n, own w k) es v (unit_stands es v (subst (λ b. In (front (n, own w k) es b) v) is h))
   ]
-    where
-      behind : Stands es v → Stands ((n, own w k) ∷ es) v
-      behind x = record { page = x.page; csum = x.csum; there = inr x.there; inside = x.inside }
 
   pub stands_unit : (es : List (ℕ × Place)) (v page csum : ℕ) → In es (page, own v csum) → test page ≡ true → In (units_in es) v
   stands_unit [] v page csum h is = absurd h
@@ -143,11 +147,25 @@ module _ (w : Width) (test : ℕ → Bool) where
         | inl t ↦ subst (λ b. In (front (n, own w k) es b) v) (sym t) (inr rest)
         | inr t ↦ subst (λ b. In (front (n, own w k) es b) v) (sym t) rest
       ]
+  stands_unit ((n, slot sbid index) ∷ es) v page csum (inl here) is =
+      let same : slot sbid index ≡ own v csum = ap (λ (p : ℕ × Place). p.1) here in absurd cc
+  stands_unit ((n, slot sbid index) ∷ es) v page csum (inr later) is =
+      let rest = stands_unit es v page csum later is in
+      elim (cases_Bool (test n)) [
+        | inl t ↦ subst (λ b. In (front (n, slot sbid index) es b) v) (sym t) rest
+        | inr t ↦ subst (λ b. In (front (n, slot sbid index) es b) v) (sym t) rest
+      ]
 
   -- where no two entries have the unit, it doesn't come twice
   units_differ : (es : List (ℕ × Place)) (v : ℕ) → T (is_sorted nat_cmp es)
       → ((p q a b : ℕ) → In es (p, own v a) → In es (q, own v b) → p ≡ q) → NotTwice (units_in es) v
   units_differ [] v sorted one = tt
+  units_differ ((n, slot sbid index) ∷ es) v sorted one =
+      let rest = units_differ es v (both_second (below_all nat_cmp n es) _ sorted) (λ p q a b x y. one p q a b (inr x) (inr y)) in
+      elim (cases_Bool (test n)) [
+        | inl is ↦ subst (λ b. NotTwice (front (n, slot sbid index) es b) v) (sym is) rest
+        | inr is ↦ subst (λ b. NotTwice (front (n, slot sbid index) es b) v) (sym is) rest
+      ]
   units_differ ((n, own w k) ∷ es) v sorted one =
       let rest = units_differ es v (both_second (below_all nat_cmp n es) _ sorted) (λ p q a b x y. one p q a b (inr x) (inr y)) in
       elim (cases_Bool (test n)) [

@@ -13,9 +13,10 @@ use Rattle.meta_rows.specs.Prelude.{Rows}
 use Rattle.unit_fields.specs.Prelude.{IsName}
 use Rattle.unit_fields.specs.declared.width.Width.{Width}
 use Rattle.row_format.specs.Prelude.{Place}
+use Rattle.store_image.specs.Prelude.{PageUnit}
 use Rattle.number_map.proofs.Laws.{same}
 use Rattle.plan_drafts.specs.declared.draft.Draft.{Draft}
-use Rattle.plan_drafts.specs.Prelude.{Edit, edit_of, is_touched, drafted, units_released, Layout, or_new, object_of, edit_on, draft_after, CollDraft, with_op, IsOnObject, IsTaken}
+use Rattle.plan_drafts.specs.Prelude.{Edit, edit_of, is_touched, drafted, units_released, page_unit, Layout, or_new, object_of, edit_on, draft_after, CollDraft, with_op, IsOnObject, IsTaken}
 use Rattle.page_edits.specs.Takings.{IsNumbered}
 use Rattle.page_edits.specs.Writes.{op_at}
 use Rattle.page_edits.proofs.DraftedPages.{kept_touched, kept_same, uncleared_same}
@@ -61,7 +62,7 @@ touch_same o n (Some y) some = λ i. Some (record { size = y.size; kept = kept i
     puts = same (drafted e n y).puts y.puts (λ page. uncleared_same e y page refl)
 
 module _ (w : Width) (rows : Rows) (c : List ℕ) (layouts : List ℕ → Option Layout) (have : HaveLayouts w rows c layouts) (ops : List Op) (op : Op) (at : ℕ)
-    (d : CollDraft) (lt : at < length ops) (op_is : op_at ops at ≡ op) (name : IsName (object_of op)) (taken : IsTaken d op) (r : IsReached layouts d)
+    (d : CollDraft) (on : d.on ≡ page_unit w rows) (lt : at < length ops) (op_is : op_at ops at ≡ op) (name : IsName (object_of op)) (taken : IsTaken d op) (r : IsReached layouts d)
     (old new : Planning) (was : IsStateOf rows c layouts d old) where
   abbrev o : List ℕ
   o = object_of op
@@ -102,9 +103,10 @@ module _ (w : Width) (rows : Rows) (c : List ℕ) (layouts : List ℕ → Option
     edits : edit_on op x ≡ Some e
     edits = subst (λ z. edit_on op z ≡ Some (edit_of op (or_new z).size)) is.now_is h.edits
 
-    tells : TellsEdit op at d.taken (or_new x) h.edited
-    tells = subst (λ n. TellsEdit op at n (or_new x) h.edited) was.taken
-        (subst (λ z. TellsEdit op at old.taken (or_new z) h.edited) is.now_is h.tells)
+    tells : TellsEdit d.on op at d.taken (or_new x) h.edited
+    tells = subst (λ n. TellsEdit d.on op at n (or_new x) h.edited) was.taken
+        (subst (λ z. TellsEdit d.on op at old.taken (or_new z) h.edited) is.now_is
+        (subst (λ (u : Place → PageUnit). TellsEdit u op at old.taken (or_new h.before.now) h.edited) (sym on) h.tells))
 
     made : draft_after op d ≡ Some (drafted e d.taken (or_new x))
     made = elim (what_becomes op d) [
@@ -190,7 +192,7 @@ module _ (w : Width) (rows : Rows) (c : List ℕ) (layouts : List ℕ → Option
 -- ---- each operation on an object
 
 module _ (w : Width) (rows : Rows) (c : List ℕ) (layouts : List ℕ → Option Layout) (have : HaveLayouts w rows c layouts) (ops : List Op) (at : ℕ)
-    (d : CollDraft) (lt : at < length ops) (r : IsReached layouts d) (old new : Planning) (was : IsStateOf rows c layouts d old) where
+    (d : CollDraft) (on_is : d.on ≡ page_unit w rows) (lt : at < length ops) (r : IsReached layouts d) (old new : Planning) (was : IsStateOf rows c layouts d old) where
   idle_touch : (u : List ℕ) → IsIdle (Touch u) d
   idle_touch u = record { units = refl; places = refl; writes = λ read held. refl }
 
@@ -201,17 +203,17 @@ module _ (w : Width) (rows : Rows) (c : List ℕ) (layouts : List ℕ → Option
   carried (Clone u to) of name taken on ch = absurd on
   carried (CloneRange u to src len dst) of name taken on ch = absurd on
   carried (Touch u) of name taken on (inl k) =
-      unchanged w rows c layouts have ops (Touch u) at d lt of name taken r old new was k.same
+      unchanged w rows c layouts have ops (Touch u) at d on_is lt of name taken r old new was k.same
       (touch_same u d.taken (d.layout u) (k.there w layouts d was have)) (idle_touch u)
-  carried (Touch u) of name taken on (inr h) = edited w rows c layouts have ops (Touch u) at d lt of name taken r old new was h
-  carried (Write u off bytes) of name taken on h = edited w rows c layouts have ops (Write u off bytes) at d lt of name taken r old new was h
-  carried (Zero u off len) of name taken on h = edited w rows c layouts have ops (Zero u off len) at d lt of name taken r old new was h
-  carried (Truncate u to) of name taken on (inl h) = edited w rows c layouts have ops (Truncate u to) at d lt of name taken r old new was h
+  carried (Touch u) of name taken on (inr h) = edited w rows c layouts have ops (Touch u) at d on_is lt of name taken r old new was h
+  carried (Write u off bytes) of name taken on h = edited w rows c layouts have ops (Write u off bytes) at d on_is lt of name taken r old new was h
+  carried (Zero u off len) of name taken on h = edited w rows c layouts have ops (Zero u off len) at d on_is lt of name taken r old new was h
+  carried (Truncate u to) of name taken on (inl h) = edited w rows c layouts have ops (Truncate u to) at d on_is lt of name taken r old new was h
   carried (Truncate u to) of name taken on (inr h) =
       let none : d.layout u ≡ None = sym (h.stands layouts d was have).now_is ∙ h.missing in
-      left_missing w rows c layouts have ops (Truncate u to) at d lt of name taken r old new was
+      left_missing w rows c layouts have ops (Truncate u to) at d on_is lt of name taken r old new was
       (ap (λ z. option_map_or (λ e. Some (drafted e d.taken (or_new z))) (edit_on (Truncate u to) z) z) none ∙ sym none) (idle_by (Truncate u to) d (ap (λ z. edit_on (Truncate u to) z) none)) h
   carried (Remove u) of name taken on h =
-      dropped w rows c layouts have ops (Remove u) at d lt of name taken r old new was refl (idle_by (Remove u) d refl) h
+      dropped w rows c layouts have ops (Remove u) at d on_is lt of name taken r old new was refl (idle_by (Remove u) d refl) h
   carried op of name taken on same =
-      unchanged w rows c layouts have ops op at d lt of name taken r old new was same refl (idle_by op d refl)
+      unchanged w rows c layouts have ops op at d on_is lt of name taken r old new was same refl (idle_by op d refl)

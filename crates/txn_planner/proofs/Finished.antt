@@ -95,7 +95,7 @@ module _ (w : Width) (change : Change) (rows : Rows) (space : Space) (draft : Tx
   layouts = is.asks.layouts
 
   abbrev start : CollDraft
-  start = first_draft rows c layouts
+  start = first_draft w rows c layouts
 
   abbrev y : CollDraft
   y = with_ops change.ops start

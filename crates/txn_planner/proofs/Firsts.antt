@@ -17,11 +17,11 @@ kept_first None = refl
 kept_first (Some x) = refl
 
 -- no page is left then
-pub none_left : (rows : Rows) (c : List ℕ) (layouts : List ℕ → Option Layout) (unit : ℕ)
-    → Contains [] unit ↔ Leaves layouts (first_draft rows c layouts) unit
-none_left rows c layouts unit = (λ k. by k, λ l. absurd (let t = sym l.left ∙ ap (λ m. finite.get m l.page) (kept_first (layouts l.object)) ∙ l.stood in cc))
+pub none_left : (w : Width) (rows : Rows) (c : List ℕ) (layouts : List ℕ → Option Layout) (unit : ℕ)
+    → Contains [] unit ↔ Leaves layouts (first_draft w rows c layouts) unit
+none_left w rows c layouts unit = (λ k. by k, λ l. absurd (let t = sym l.left ∙ ap (λ m. finite.get m l.page) (kept_first (layouts l.object)) ∙ l.stood in cc))
   where
-    by : Contains [] unit → Leaves layouts (first_draft rows c layouts) unit
+    by : Contains [] unit → Leaves layouts (first_draft w rows c layouts) unit
     by k = absurd (omega (arith, k.1))
 
 -- ---- the layout that an object has

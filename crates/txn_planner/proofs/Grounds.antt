@@ -7,13 +7,20 @@ use Rattle.std.specs.FinMap as finite
 use Rattle.object_model.specs.declared.op.Op.{Op}
 use Rattle.object_model.specs.Prelude.{Change}
 use Rattle.meta_rows.specs.Prelude.{Rows}
+use Rattle.meta_log.specs.declared.slot.Super.{Super}
 use Rattle.meta_log.specs.Prelude.{width_of}
+use Rattle.unit_fields.specs.Prelude.{IsName}
 use Rattle.unit_fields.specs.declared.width.Width.{Width}
+use Rattle.row_format.specs.Prelude.{Place}
+use Rattle.store_image.specs.Prelude.{StandsOn}
+use Rattle.store_image.proofs.Prelude.{one_place, some_unit}
 use Rattle.plan_rows.specs.declared.plan.ReadUnit.{ReadUnit}
+use Rattle.plan_rows.proofs.PlaceUnits.{unit_is}
 use Rattle.plan_drafts.specs.declared.draft.Draft.{Draft}
-use Rattle.plan_drafts.specs.Prelude.{Layout, HasLayout, CollDraft, with_ops, held_by, none_held, AreTaken, Begins, draft_of}
+use Rattle.plan_drafts.specs.Prelude.{Layout, HasLayout, CollDraft, with_ops, held_by, none_held, AreTaken, Begins, draft_of, or_empty, page_unit}
 use Rattle.object_rows.specs.Stores.{AreRowsOfWidth}
 use Rattle.plan_proofs.proofs.DraftBytes.{AllWhole, all_whole}
+use Rattle.plan_proofs.proofs.DraftOwners.{layout_pages}
 use Rattle.plan_proofs.proofs.DraftStart.{reached_first}
 use Rattle.plan_proofs.proofs.EditFacts.{the_edit_laws, the_length_law, the_byte_laws}
 use Rattle.plan_proofs.proofs.Reached.{IsReached, reached}
@@ -22,7 +29,21 @@ use Rattle.txn_planner.specs.Planning.{first_draft, IsGround}
 module _ (w : Width) (rows : Rows) (good : AreRowsOfWidth w rows) (change : Change) (layouts : List ℕ → Option Layout)
     (ground : IsGround w change rows layouts) where
   abbrev first : CollDraft
-  first = first_draft rows change.coll layouts
+  first = first_draft w rows change.coll layouts
+
+  -- a page stands on the unit that the rows say
+  place_stands : (o : List ℕ) (page : ℕ) (place : Place) → IsName o → finite.get (or_empty (layouts o)).pages page ≡ Some place
+      → StandsOn w rows place (page_unit w rows place)
+  place_stands o page place name is =
+      let s : Super = good.store.sup in
+      let layout : HasLayout (width_of good.store.sup) rows change.coll o (layouts o) =
+      subst (λ u. HasLayout u rows change.coll o (layouts o)) (sym good.wide) (ground.has o name) in
+      let at = (layout_pages s rows change.coll o (layouts o) good.store.good layout page place).0 is in
+      let found = some_unit s rows good.store.good change.coll o page place at in
+      let same = one_place s rows good.store.good change.coll o page found.1.place place found.1.at at in
+      let stands : StandsOn w rows place found.0 =
+      subst (λ u. StandsOn u rows place found.0) good.wide (subst (λ p. StandsOn (width_of good.store.sup) rows p found.0) same found.1.stands) in
+      subst (StandsOn w rows place) (sym (unit_is w rows place found.0 stands)) stands
 
   pub begins : (v : Width) → v ≡ w → Begins v rows change.coll layouts first
   begins v same = record {
@@ -31,6 +52,7 @@ module _ (w : Width) (rows : Rows) (good : AreRowsOfWidth w rows) (change : Chan
     drafts = λ o name. refl;
     values = λ o k name named. refl;
     none_taken = refl;
+    stand = λ o page place name is. subst (λ u. StandsOn u rows place (page_unit w rows place)) (sym same) (place_stands o page place name is);
   }
 
   first_reached : IsReached layouts first

@@ -19,6 +19,7 @@ use Rattle.object_rows.specs.Stores.{AreRowsOfWidth}
 use Rattle.page_edits.specs.Writes.{op_at, after_writes, CanBeMade}
 use Rattle.page_edits.proofs.DraftedPages.{no_value}
 use Rattle.page_edits.proofs.UnitContents.{more_made, can_more, can_both}
+use Rattle.plan_proofs.proofs.DraftBytes.{on_same}
 use Rattle.plan_proofs.proofs.EditFacts.{the_count_laws}
 use Rattle.plan_proofs.proofs.Reached.{IsReached}
 use Rattle.txn_planner.specs.declared.fails.PlanFail.{PlanFail}
@@ -58,7 +59,7 @@ few_ops change small =
 module _ (w : Width) (change : Change) (rows : Rows) (good : AreRowsOfWidth w rows) (n : ℕ) (lt : n < length change.ops) (old new : Planning)
     (layouts : List ℕ → Option Layout) (ground : IsGround w change rows layouts) (was : IsPlannedTo w change rows layouts n old) where
   abbrev first : CollDraft
-  first = first_draft rows change.coll layouts
+  first = first_draft w rows change.coll layouts
 
   abbrev front : List Op
   front = take n change.ops
@@ -146,7 +147,7 @@ module _ (w : Width) (change : Change) (rows : Rows) (good : AreRowsOfWidth w ro
   pub made_next : the_op ≡ MkColl → old.there ≡ false → new ≡ record old { there = true } → Next
   made_next is none same planned layouts ground =
       let was = planned layouts ground in
-      let d : CollDraft = with_ops (take n change.ops) (first_draft rows change.coll layouts) in
+      let d : CollDraft = with_ops (take n change.ops) (first_draft w rows change.coll layouts) in
       subst (IsPlannedTo w change rows layouts (n + 1)) (sym same)
       (one_planned w change rows good n lt old (record old { there = true }) layouts ground was
       (subst (IsTaken d) (sym is) (sym was.state.there ∙ none))
@@ -157,7 +158,7 @@ module _ (w : Width) (change : Change) (rows : Rows) (good : AreRowsOfWidth w ro
   pub dropped_next : the_op ≡ RmColl → old.there ≡ true → OfState rows change.coll old IsBare → new ≡ record old { there = false } → Next
   dropped_next is there bare same planned layouts ground =
       let was = planned layouts ground in
-      let d : CollDraft = with_ops (take n change.ops) (first_draft rows change.coll layouts) in
+      let d : CollDraft = with_ops (take n change.ops) (first_draft w rows change.coll layouts) in
       subst (IsPlannedTo w change rows layouts (n + 1)) (sym same)
       (one_planned w change rows good n lt old (record old { there = false }) layouts ground was
       (subst (IsTaken d) (sym is) (sym was.state.there ∙ there, bare w layouts d was.state ground.has))
@@ -169,11 +170,11 @@ module _ (w : Width) (change : Change) (rows : Rows) (good : AreRowsOfWidth w ro
       → MakesObject w rows change.coll the_op n old new → Next
   object_next on named names fit makes planned layouts ground =
       let was = planned layouts ground in
-      let d : CollDraft = with_ops (take n change.ops) (first_draft rows change.coll layouts) in
+      let d : CollDraft = with_ops (take n change.ops) (first_draft w rows change.coll layouts) in
       let r : IsReached layouts d = reached_now w change rows good n lt old new layouts ground was in
       let taken : IsTaken d the_op = is_taken w change rows good n lt old new layouts ground was on named names fit in
       let k : Carries rows change.coll layouts change.ops the_op d old makes.between =
-      carried w rows change.coll layouts ground.has change.ops n d lt r old makes.between was.state the_op refl named taken on makes.changes in
+      carried w rows change.coll layouts ground.has change.ops n d (on_same (take n change.ops) (first_draft w rows change.coll layouts)) lt r old makes.between was.state the_op refl named taken on makes.changes in
       let then : Planning = record makes.between { values = new.values } in
       let stand : AreStanding rows change.coll layouts (with_op the_op d) new =
       subst (AreStanding rows change.coll layouts (with_op the_op d)) (sym makes.same)
@@ -194,7 +195,7 @@ module _ (w : Width) (change : Change) (rows : Rows) (good : AreRowsOfWidth w ro
   -- ---- refusals
 
   refused_so : (refusal : Refusal) → ((layouts : List ℕ → Option Layout) → IsGround w change rows layouts → IsPlannedTo w change rows layouts n old
-      → IsRefused (with_ops (take n change.ops) (first_draft rows change.coll layouts)) the_op refusal) → Fails (fail.Refusal refusal)
+      → IsRefused (with_ops (take n change.ops) (first_draft w rows change.coll layouts)) the_op refusal) → Fails (fail.Refusal refusal)
   refused_so refusal is planned layouts ground =
       refused w change rows good n lt old new layouts ground (planned layouts ground) refusal (is layouts ground (planned layouts ground))
 

@@ -10,7 +10,7 @@ use Rattle.unit_fields.specs.Prelude.{IsName}
 use Rattle.unit_fields.specs.declared.width.Width.{Width}
 use Rattle.blob_map.specs.Prelude.{PageMap}
 use Rattle.plan_drafts.specs.declared.draft.Draft.{Draft}
-use Rattle.plan_drafts.specs.Prelude.{edit_of, drafted, units_released, Layout, HasLayout, object_of, or_new, edit_on, CollDraft}
+use Rattle.plan_drafts.specs.Prelude.{edit_of, drafted, units_released, page_unit, Layout, HasLayout, object_of, or_new, edit_on, CollDraft}
 use Rattle.txn_planner.specs.declared.planning.Planning.{Planning}
 use Rattle.txn_planner.specs.declared.touched.Touched.{Touched}
 use Rattle.txn_planner.specs.Planning.{IsStateOf}
@@ -32,12 +32,12 @@ module _ (w : Width) (rows : Rows) (c o : List ℕ) (name : IsName o) (old : Pla
 
     -- it is put back edited
     pub edited_back : (at : ℕ) (between new : Planning) (then : Touched) (draft : Draft) → between ≡ out → then ≡ record t { now = None }
-        → draft ≡ or_new t.now → edit_on op t.now ≡ Some (edit_of op draft.size) → EditsDraft op at o then draft between new
+        → draft ≡ or_new t.now → edit_on op t.now ≡ Some (edit_of op draft.size) → EditsDraft (page_unit w rows) op at o then draft between new
         → EditsObject w rows c op at old new
     edited_back at between new then draft same then_is draft_is edits h =
-        let k : EditsDraft op at o (record t { now = None }) (or_new t.now) out new =
-        subst (λ x. EditsDraft op at o x (or_new t.now) out new) then_is
-        (subst (λ x. EditsDraft op at o then x out new) draft_is (subst (λ b. EditsDraft op at o then draft b new) same h)) in
+        let k : EditsDraft (page_unit w rows) op at o (record t { now = None }) (or_new t.now) out new =
+        subst (λ x. EditsDraft (page_unit w rows) op at o x (or_new t.now) out new) then_is
+        (subst (λ x. EditsDraft (page_unit w rows) op at o then x out new) draft_is (subst (λ b. EditsDraft (page_unit w rows) op at o then draft b new) same h)) in
         record {
           before = t;
           stands = so_of_op;

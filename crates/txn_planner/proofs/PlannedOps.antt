@@ -102,7 +102,7 @@ few_by w rows good change coll known small n p planned =
 
 -- before the first operation
 pub first_planned : (w : Width) (change : Change) (rows : Rows) (p : Planning)
-    → ((layouts : List ℕ → Option Layout) → IsStateOf rows change.coll layouts (first_draft rows change.coll layouts) p) → p.writes.items ≡ []
+    → ((layouts : List ℕ → Option Layout) → IsStateOf rows change.coll layouts (first_draft w rows change.coll layouts) p) → p.writes.items ≡ []
     → p.places.items ≡ [] → p.taken ≡ 0 → PlannedTo w change rows 0 p
 first_planned w change rows p state writes places taken layouts ground = record {
   taken = tt;

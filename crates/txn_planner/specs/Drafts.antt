@@ -33,6 +33,6 @@ pub record IsDraftFor (w : Width) (change : Change) (rows : Rows) (space : Space
 -- why an operation of the transaction isn't planned: it is the first that is refused, or memory ran out
 abbrev pub IsPlanRefused : Width → Change → Rows → PlanFail → Type 0
 IsPlanRefused w change rows (fail.Refusal refusal) =
-    (layouts : List ℕ → Option Layout) → IsGround w change rows layouts → AreRefused change.ops (first_draft rows change.coll layouts) refusal
+    (layouts : List ℕ → Option Layout) → IsGround w change rows layouts → AreRefused change.ops (first_draft w rows change.coll layouts) refusal
 IsPlanRefused w change rows (fail.NoSpace need free) = ⊥
 IsPlanRefused w change rows fail.Memory = Unit {0}

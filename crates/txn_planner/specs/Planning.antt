@@ -10,7 +10,7 @@ use Rattle.unit_fields.specs.declared.width.Width.{Width}
 use Rattle.row_format.specs.Prelude.{coll_key, onode_key}
 use Rattle.store_image.specs.Prelude.{HasKey}
 use Rattle.plan_rows.specs.declared.plan.ReadUnit.{ReadUnit}
-use Rattle.plan_drafts.specs.Prelude.{Layout, HasLayout, ValueKey, value_key, IsValueKey, IsKnown, CollDraft, with_ops, places_of, held_by, none_held, AreTaken, draft_of, Leaves}
+use Rattle.plan_drafts.specs.Prelude.{page_unit, Layout, HasLayout, ValueKey, value_key, IsValueKey, IsKnown, CollDraft, with_ops, places_of, held_by, none_held, AreTaken, draft_of, Leaves}
 use Rattle.row_changes.specs.Prelude.{value_seen}
 use Rattle.value_changes.specs.Changed.{AreOfValues}
 use Rattle.page_edits.specs.Writes.{after_writes, CanBeMade}
@@ -18,13 +18,14 @@ use Rattle.txn_planner.specs.declared.planning.Planning.{Planning}
 use Rattle.txn_planner.specs.declared.touched.Touched.{Touched}
 use Rattle.txn_planner.specs.Touching.{IsTouched}
 
--- the collection as the rows say it, where its objects have these layouts
-abbrev pub first_draft : Rows → List ℕ → (List ℕ → Option Layout) → CollDraft
-first_draft rows c layouts = record {
+-- the collection as the rows say it, where its objects have these layouts and checksums this width
+abbrev pub first_draft : Width → Rows → List ℕ → (List ℕ → Option Layout) → CollDraft
+first_draft w rows c layouts = record {
   there = finite.contains_key rows (coll_key c);
   layout = λ o. option_map draft_of (layouts o);
   value = λ o k. finite.get rows (value_key c o k);
   taken = 0;
+  on = page_unit w rows;
 }
 
 -- The state has the collection as this draft has it: whether it is there, each object that was looked at as it stands now, all others as they stood,
@@ -62,12 +63,12 @@ pub record IsGround (w : Width) (change : Change) (rows : Rows) (layouts : List 
 
 -- The first so many operations of the transaction are planned: each is taken, the state is what they lead to, and the places and the writes are theirs.
 pub record IsPlannedTo (w : Width) (change : Change) (rows : Rows) (layouts : List ℕ → Option Layout) (n : ℕ) (p : Planning) : Type 0 where
-  pub taken : AreTaken (take n change.ops) (first_draft rows change.coll layouts)
-  pub state : IsStateOf rows change.coll layouts (with_ops (take n change.ops) (first_draft rows change.coll layouts)) p
+  pub taken : AreTaken (take n change.ops) (first_draft w rows change.coll layouts)
+  pub state : IsStateOf rows change.coll layouts (with_ops (take n change.ops) (first_draft w rows change.coll layouts)) p
   pub few : p.taken ≤ 258 * n
-  pub places : p.places.items ≡ places_of (take n change.ops) (first_draft rows change.coll layouts)
+  pub places : p.places.items ≡ places_of (take n change.ops) (first_draft w rows change.coll layouts)
   pub held : (read : List ReadUnit) → AllByRecursion (λ r. length r.bytes ≡ 4096) read
-      → after_writes change.ops read p.writes.items none_held ≡ held_by read (take n change.ops) (first_draft rows change.coll layouts) none_held
+      → after_writes change.ops read p.writes.items none_held ≡ held_by read (take n change.ops) (first_draft w rows change.coll layouts) none_held
   pub can : AllByRecursion (CanBeMade change.ops p.taken) p.writes.items
 
 -- so it is, whatever layouts the objects have

@@ -10,9 +10,11 @@ use Rattle.object_model.specs.declared.op.Refusal.TheVariants.{NoCollection, Col
 use Rattle.meta_rows.specs.Prelude.{Rows}
 use Rattle.unit_fields.specs.Prelude.{IsName}
 use Rattle.unit_fields.specs.declared.width.Width.{Width}
+use Rattle.row_format.specs.Prelude.{Place}
+use Rattle.store_image.specs.Prelude.{PageUnit}
 use Rattle.plan_drafts.specs.declared.draft.Draft.{Draft}
 use Rattle.plan_rows.specs.declared.plan.ReadUnit.{ReadUnit}
-use Rattle.plan_drafts.specs.Prelude.{edit_of, is_touched, pages_taking, places_read, drafted, units_released, Held, writes_of, Layout, HasLayout, object_of, or_new, edit_on, is_beyond, needs_object, CollDraft, HasSome}
+use Rattle.plan_drafts.specs.Prelude.{edit_of, is_touched, pages_taking, places_read, drafted, units_released, page_unit, Held, writes_of, Layout, HasLayout, object_of, or_new, edit_on, is_beyond, needs_object, CollDraft, HasSome}
 use Rattle.value_changes.specs.Changed.{ChangesValues}
 use Rattle.page_edits.specs.Takings.{IsNumbered, PutsWholePages}
 use Rattle.page_edits.specs.Writes.{op_at, made_by, IsWriteBy, CanBeMade}
@@ -82,13 +84,14 @@ pub record TakesNothing (old new : Planning) : Type 0 where
   pub left : new.left.items ≡ old.left.items
   pub taken : new.taken ≡ old.taken
 
--- what an edit tells: its writes, places and takings, and the pages that it touches of those that stood where they stood
-pub record TellsEdit (op : Op) (at n : ℕ) (d : Draft) (e : Edited) : Type 0 where
+-- what an edit tells, where places are on these units: its writes, the units that it reads, its takings, and the pages that it touches of those
+-- that stood where they stood
+pub record TellsEdit (on : Place → PageUnit) (op : Op) (at n : ℕ) (d : Draft) (e : Edited) : Type 0 where
   pub taken : e.taken ≡ n + length (pages_taking (edit_of op d.size) d)
-  pub places : e.places ≡ places_read (edit_of op d.size) d
+  pub places : e.places ≡ places_read on (edit_of op d.size) d
   pub left : e.left ≡ where_key nat_cmp (is_touched (edit_of op d.size)) (finite.entries d.kept)
   pub writes : (read : List ReadUnit) (held : Held) → PutsWholePages held d
-      → map (made_by op read held) e.writes ≡ writes_of (edit_of op d.size) read held n d
+      → map (made_by op read held) e.writes ≡ writes_of on (edit_of op d.size) read held n d
   pub of : AllByRecursion (IsWriteBy at) e.writes
   pub can : (ops : List Op) → at < length ops → op_at ops at ≡ op → IsNumbered n d → AllByRecursion (CanBeMade ops e.taken) e.writes
 
@@ -105,9 +108,9 @@ has_any [] = false
 has_any (x ∷ xs) = true
 
 -- A draft is edited, and the object put back as it stands then; what the edit tells is added.
-pub record EditsDraft (op : Op) (at : ℕ) (o : List ℕ) (t : Touched) (d : Draft) (old new : Planning) : Type 0 where
+pub record EditsDraft (on : Place → PageUnit) (op : Op) (at : ℕ) (o : List ℕ) (t : Touched) (d : Draft) (old new : Planning) : Type 0 where
   pub edited : Edited
-  pub tells : TellsEdit op at old.taken d edited
+  pub tells : TellsEdit on op at old.taken d edited
   pub there : new.there ≡ old.there
   pub objects : new.objects ≡ finite.insert old.objects o (record t {
     now = Some (drafted (edit_of op d.size) old.taken d);
@@ -122,7 +125,7 @@ pub record EditsObject (w : Width) (rows : Rows) (c : List ℕ) (op : Op) (at : 
   pub stands : StandsSo w rows c (object_of op) old before
   pub edits : edit_on op before.now ≡ Some (edit_of op (or_new before.now).size)
   pub edited : Edited
-  pub tells : TellsEdit op at old.taken (or_new before.now) edited
+  pub tells : TellsEdit (page_unit w rows) op at old.taken (or_new before.now) edited
   pub puts : PutsBack (object_of op) (record before {
     now = Some (drafted (edit_of op (or_new before.now).size) old.taken (or_new before.now));
     left = before.left || has_any edited.left;

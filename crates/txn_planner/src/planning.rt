@@ -33,7 +33,7 @@ pub struct Planning {
     pub writes: Vec<PageWrite>,
     /// Where the pages stand whose old bytes these need, in order.
     pub places: Vec<PageUnit>,
-    /// The units that pages have left on which they stood.
+    /// The units of objects' own that pages have left on which they stood.
     pub left: Vec<UnitNo>,
     /// How many units were taken.
     pub taken: u32,
@@ -42,8 +42,8 @@ pub struct Planning {
 impl Planning {
     /// Before the first operation.
     pub fn new(alloc: Global, rows: &RowTable, coll: &CollName) -> Result<Planning, AllocError>
-        ensures state { IfOk result (λ p. (layouts : List ℕ → Option Layout) → IsStateOf rows.now.rows coll.now layouts
-            (first_draft rows.now.rows coll.now layouts) p) }
+        ensures state { IfOk result (λ p. (width : Width) (layouts : List ℕ → Option Layout) → IsStateOf rows.now.rows coll.now layouts
+            (first_draft width rows.now.rows coll.now layouts) p) }
         ensures writes { IfOk result (λ p. p.writes.items ≡ []) }
         ensures places { IfOk result (λ p. p.places.items ≡ []) }
         ensures taken { IfOk result (λ p. p.taken ≡ 0) }

@@ -4,7 +4,7 @@ ghost use Rattle.std.specs.List.{flat_map};
 ghost use Rattle.std.specs.Option.{IfSome};
 ghost use Rattle.object_model.specs.Prelude.{is_too_large};
 ghost use Rattle.object_model.specs.declared.op.Op.TheVariants.{Touch, Truncate, Remove};
-ghost use Rattle.plan_drafts.specs.Prelude.{IsKnown, IsOnObject, IsInLimits, is_beyond, object_of, HasNames, units_released, or_new, edit_on, edit_of, IsBare};
+ghost use Rattle.plan_drafts.specs.Prelude.{IsKnown, IsOnObject, IsInLimits, is_beyond, object_of, HasNames, page_unit, units_released, or_new, edit_on, edit_of, IsBare};
 ghost use Rattle.unit_fields.specs.Prelude.{IsName};
 ghost use Rattle.object_rows.specs.Stores.{AreRowsOfAStore, AreRowsOfWidth};
 ghost use Rattle.value_changes.specs.Changed.{AreOfValues, ChangesValues};
@@ -18,7 +18,7 @@ use crate::fails::PlanFail;
 use crate::operations::{is_beyond, needs_object, object_in};
 use crate::planning::Planning;
 use crate::touched::Touched;
-use blob_map::{PageMap, Place};
+use blob_map::{At, PageMap, Place};
 use meta_rows::RowTable;
 use number_map::NumberMap;
 use object_model::{Op, Refusal, Transaction};
@@ -93,12 +93,14 @@ fn check_object(
     Ok(())
 }
 
-// Adds the units of pages that were left.
+// Adds the units that are released where these pages were left.
 fn add_left(left: &mut Vec<UnitNo>, pages: &[(u32, Place)]) -> Result<(), AllocError>
     ensures { OnOk result (left.new.items ≡ left.old.items ++ flat_map (λ p. units_released p.1) pages.now) }
 {
     for entry in pages {
-        left.push(entry.1.unit)?;
+        if let At::Unit { unit, csum: _ } = entry.1.at {
+            left.push(unit)?;
+        }
     }
     Ok(())
 }
@@ -168,6 +170,8 @@ fn has_left(left: bool, pages: &[(u32, Place)]) -> bool
 // Edits a draft, and puts the object back as it stands then.
 fn edit_draft(
     alloc: Global,
+    width: Width,
+    rows: &RowTable,
     op: &Op,
     at: u32,
     object: &Name,
@@ -175,12 +179,13 @@ fn edit_draft(
     mut draft: Draft,
     p: &mut Planning,
 ) -> Result<(), AllocError>
+    requires good { AreRowsOfWidth width rows.now.rows }
     requires bytes { IsOnBytes op.now }
     requires within { IsInLimits op.now }
     requires few { p.old.taken ≤ 2 ^ 24 }
-    ensures { OnOk result (EditsDraft op.now at object.now touched draft p.old p.new) }
+    ensures { OnOk result (EditsDraft (page_unit width rows.now.rows) op.now at object.now touched draft p.old p.new) }
 {
-    let edited = edit(alloc, op, at, &mut draft, p.taken)?;
+    let edited = edit(alloc, width, rows, op, at, &mut draft, p.taken)?;
     touched.left = has_left(touched.left, edited.left.as_slice());
     touched.now = Some(draft);
     p.put_object(alloc, object, touched)?;
@@ -208,7 +213,7 @@ fn edit_object(
     let mut touched = p.take_object(alloc, width, rows, coll, object)?;
     let now = touched.now.take();
     match draft_to_edit(alloc, op, now) {
-        Some(draft) => edit_draft(alloc, op, at, object, touched, draft, p),
+        Some(draft) => edit_draft(alloc, width, rows, op, at, object, touched, draft, p),
         None => p.put_object(alloc, object, touched),
     }
 }

@@ -1,6 +1,7 @@
-use Rattle.std.proofs.Common.{◌≡◌, ◌+◌, ◌<◌, ◌≤◌, length, get_or, ap, sym, ◌∙◌, arith}
+use Rattle.std.proofs.Common.{◌≡◌, ◌+◌, ◌<◌, ◌≤◌, [], ◌∷◌, length, get_or, refl, ap, sym, subst, ◌∙◌, arith}
 use Rattle.std.proofs.lemmas.List.{get_or_default, length-drop}
-use Rattle.row_format.specs.Prelude.{own}
+use Rattle.blob_map.specs.Prelude.{csum_of, alone}
+use Rattle.extent_shards.specs.Prelude.{body_with}
 use Rattle.extent_shards.proofs.Runs.{one_grows, next_of, next_grows, size_of_csums, ends_here, ends_with_all}
 use Rattle.extent_shards.proofs.writing.first_run.Goals as goal
 
@@ -10,11 +11,10 @@ loop-page-init c =
     let d = c.index-pages-0-2.result in
     let some : 0 < length ps = omega arith in
     let same : get_or ps 0 c.index-pages-0.result ≡ get_or ps 0 d = get_or_default ps 0 c.index-pages-0.result d some in
-    let place : own c.place.inside.unit c.place.inside.csum ≡ (get_or ps 0 d).1 = c.place.view_is ∙ ap (λ p. p.1) same in
     record {
       counted = omega arith;
-      grows = one_grows ps (record { first = (get_or ps 0 d).0; count = 1; unit = c.place.inside.unit }) c.place.inside.csum d some (omega arith)
-          (λ i. ((get_or ps 0 d).0, place i));
+      grows = one_grows ps (record { first = (get_or ps 0 d).0; count = 1; start = c.start_of.result }) (get_or ps 0 d).1 d some refl refl
+          (subst (λ p. body_with c.start_of.result 1 (csum_of p ∷ []) ≡ alone p) (ap (λ p. p.1) same) c.start_of.ensures);
     }
 
 pub loop-page-preserved : goal.loop-page-preserved

@@ -26,8 +26,9 @@ pub take_in-requires-clause-sums : goal.take_in-requires-clause-sums
 take_in-requires-clause-sums g c =
     let part = c.read_part.new.part.items in
     let left = c.args.size - c.parts.next * 4096 in
-    sums_of_front c.in_ok-count.count left part c.front.result.now c.read_part.new.sums (c.front.ensures ∙ ap (take left) c.deref.ensures.value)
-    c.in_ok-count.ensures.good.size c.in_ok-count.ensures.sums
+    let bytes : c.deref.result.now ≡ part = c.deref.ensures.value in
+    let front : c.front.result.now ≡ take left part = c.front.ensures ∙ ap (take left) bytes in
+    sums_of_front c.in_ok-count.count left part c.front.result.now c.read_part.new.sums front c.in_ok-count.ensures.good.size c.in_ok-count.ensures.sums
 
 pub parts-preserved : goal.parts-preserved
 parts-preserved g c =

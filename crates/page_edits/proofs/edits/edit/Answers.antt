@@ -5,9 +5,11 @@ use Rattle.std.specs.List.{AllByRecursion, flat_map}
 use Rattle.std.specs.Option.{option_to_list}
 use Rattle.number_map.specs.NumberMap.{NumberMap}
 use Rattle.object_model.specs.declared.op.Op.{Op}
+use Rattle.row_format.specs.Prelude.{Place}
+use Rattle.store_image.specs.Prelude.{PageUnit}
 use Rattle.blob_map.specs.Prelude.{PageMap}
 use Rattle.plan_drafts.specs.declared.draft.Draft.{Draft}
-use Rattle.plan_drafts.specs.Edits.{Edit, edit_of, end_of, has_bytes_of, covers_whole, gets_bytes, takes_unit, pages_touched, pages_put, pages_taking, place_read, places_read, drafted, IsInLimits}
+use Rattle.plan_drafts.specs.Edits.{Edit, edit_of, end_of, has_bytes_of, covers_whole, gets_bytes, takes_unit, pages_touched, pages_put, pages_taking, place_read, places_read, page_unit, drafted, IsInLimits}
 use Rattle.page_edits.specs.declared.spans.Span.{Span}
 use Rattle.page_edits.specs.declared.writes.PageWrite.{PageWrite}
 use Rattle.page_edits.specs.Ranges.{span_by, fate_on}
@@ -29,17 +31,17 @@ put_on s d = filter (λ page. gets_bytes (fate_on s d page)) (pages_touched s.of
 abbrev made : ℕ → PageMap → NumberMap ℕ → Draft
 made size kept puts = record { size = size; kept = kept; puts = puts }
 
-abbrev made_by_span : ℕ → ℕ → Draft → Span → Draft
-made_by_span at n d s = made s.size (finite.retain_keys d.kept (λ page. not (has_bytes_of s.off s.end page)))
-    (with_puts (finite.retain_keys d.puts (λ page. not (s.clears && covers_whole s.off s.end page))) (planned at s d n (put_on s d)))
+abbrev made_by_span : (Place → PageUnit) → ℕ → ℕ → Draft → Span → Draft
+made_by_span on at n d s = made s.size (finite.retain_keys d.kept (λ page. not (has_bytes_of s.off s.end page)))
+    (with_puts (finite.retain_keys d.puts (λ page. not (s.clears && covers_whole s.off s.end page))) (planned on at s d n (put_on s d)))
 
-draft_is : (at : ℕ) (op : Op) (n : ℕ) (d : Draft) → made_by_span at n d (span_by (edit_of op d.size)) ≡ drafted (edit_of op d.size) n d
-draft_is at op n d =
+draft_is : (on : Place → PageUnit) (at : ℕ) (op : Op) (n : ℕ) (d : Draft) → made_by_span on at n d (span_by (edit_of op d.size)) ≡ drafted (edit_of op d.size) n d
+draft_is on at op n d =
     let e : Edit = edit_of op d.size in
-    (λ i. made e.size (finite.retain_keys d.kept (λ page. sym (left_is e.off (end_of e) e.clears d page) i)) (planned_puts at op n d i))
+    (λ i. made e.size (finite.retain_keys d.kept (λ page. sym (left_is e.off (end_of e) e.clears d page) i)) (planned_puts on at op n d i))
 
-pub plan_pages-requires : goal.plan_pages-requires
-plan_pages-requires c =
+pub plan_pages-requires-clause-few : goal.plan_pages-requires-clause-few
+plan_pages-requires-clause-few c =
     let d : Draft = c.args.draft.now in
     few_pages c.args.op.now d c.args.taken c.as_slice.result.now c.requires.within c.requires.few
     (c.as_slice.ensures ∙ c.in_ok-pages.ensures ∙ ap (λ s. put_on s d) c.span_of-span.ensures.span)
@@ -47,6 +49,7 @@ plan_pages-requires c =
 pub returns-clause-draft : goal.returns-clause-draft
 returns-clause-draft c =
     let d : Draft = c.args.draft.now in
+    let on : Place → PageUnit = page_unit c.args.width c.args.rows.now.rows in
     let s : Span = c.span_of-span.result in
     let at : ℕ = c.args.at in
     let n : ℕ = c.args.taken in
@@ -56,11 +59,14 @@ returns-clause-draft c =
     ap (λ k. made s.size k c.put_pages.new.puts) c.in_ok-left.ensures.kept
     ∙ ap (made s.size kept) (c.in_ok-put_pages.ensures ∙ ap (λ (l : List PageWrite). with_puts puts l) c.as_slice-2.ensures
     ∙ ap (λ m. with_puts m c.in_ok-planned.planned.writes) c.in_ok-clear.ensures
-    ∙ ap (with_puts uncleared) (c.in_ok-planned.ensures.writes ∙ ap (planned at s d n) (c.as_slice.ensures ∙ c.in_ok-pages.ensures)))
-    ∙ ap (made_by_span at n d) c.span_of-span.ensures.span
-    ∙ draft_is at c.args.op.now n d
+    ∙ ap (with_puts uncleared) (c.in_ok-planned.ensures.writes ∙ ap (planned on at s d n) (c.as_slice.ensures ∙ c.in_ok-pages.ensures)))
+    ∙ ap (made_by_span on at n d) c.span_of-span.ensures.span
+    ∙ draft_is on at c.args.op.now n d
 
 module _ (c : goal.After-drop-pages-inside-2) where
+  abbrev on : Place → PageUnit
+  on = page_unit c.args.width c.args.rows.now.rows
+
   abbrev d : Draft
   d = c.args.draft.now
 
@@ -74,11 +80,11 @@ module _ (c : goal.After-drop-pages-inside-2) where
   by_edit : {X : Type 0} (f : Span → List ℕ → X) → f c.span_of-span.result c.as_slice.result.now ≡ f (span_by e) (pages_put e d)
   by_edit f = ap (f c.span_of-span.result) pages_are ∙ ap (λ s. f s (put_on s d)) c.span_of-span.ensures.span
 
-  writes_are : c.in_ok-planned.planned.writes ≡ plans c.args.at c.args.op.now c.args.taken d
-  writes_are = c.in_ok-planned.ensures.writes ∙ by_edit (λ s. planned c.args.at s d c.args.taken)
+  writes_are : c.in_ok-planned.planned.writes ≡ plans on c.args.at c.args.op.now c.args.taken d
+  writes_are = c.in_ok-planned.ensures.writes ∙ by_edit (λ s. planned on c.args.at s d c.args.taken)
 
-  places_are : c.in_ok-planned.planned.places ≡ places_read e d
-  places_are = c.in_ok-planned.ensures.places ∙ by_edit (λ s. flat_map (λ page. option_to_list (place_read (fate_on s d page) (finite.get d.kept page))))
+  places_are : c.in_ok-planned.planned.places ≡ places_read on e d
+  places_are = c.in_ok-planned.ensures.places ∙ by_edit (λ s. flat_map (λ page. option_to_list (place_read on (fate_on s d page) (finite.get d.kept page))))
 
   taken_is : c.in_ok-planned.planned.taken ≡ c.args.taken + length (pages_taking e d)
   taken_is = c.in_ok-planned.ensures.taken ∙ by_edit (λ s pages. c.args.taken + length (filter (λ page. takes_unit (fate_on s d page)) pages))
@@ -92,18 +98,18 @@ returns-clause-taken c = taken_is c
 pub returns-clause-writes : goal.returns-clause-writes
 returns-clause-writes c = λ read held whole.
     ap (λ (l : List PageWrite). map (made_by c.args.op.now read held) l) (writes_are c)
-    ∙ planned_writes c.args.at c.args.op.now c.args.taken c.args.draft.now read held whole
+    ∙ planned_writes (page_unit c.args.width c.args.rows.now.rows) c.args.at c.args.op.now c.args.taken c.args.draft.now read held whole
 
 pub returns-clause-of : goal.returns-clause-of
 returns-clause-of c =
     let d : Draft = c.args.draft.now in
     let e : Edit = edit_of c.args.op.now d.size in
     subst (AllByRecursion (IsWriteBy c.args.at)) (sym (writes_are c))
-    (all_of_operation c.args.at (span_by e) d (pages_put e d) c.args.taken)
+    (all_of_operation (page_unit c.args.width c.args.rows.now.rows) c.args.at (span_by e) d (pages_put e d) c.args.taken)
 
 pub returns-clause-can : goal.returns-clause-can
 returns-clause-can c = λ ops there is num.
     subst (λ n. AllByRecursion (CanBeMade ops n) c.in_ok-planned.planned.writes) (sym (taken_is c))
     (subst (λ (l : List PageWrite). AllByRecursion
     (CanBeMade ops (c.args.taken + length (pages_taking (edit_of c.args.op.now c.args.draft.now.size) c.args.draft.now))) l) (sym (writes_are c))
-    (planned_can c.args.at c.args.op.now c.args.taken c.args.draft.now ops there is c.requires.within num))
+    (planned_can (page_unit c.args.width c.args.rows.now.rows) c.args.at c.args.op.now c.args.taken c.args.draft.now ops there is c.requires.within num))

@@ -1,15 +1,10 @@
-use Rattle.std.proofs.Common.{◌≡◌, ◌+◌, ◌∙◌, Some, refl, sym, subst, arith}
-use Rattle.row_format.specs.Prelude.{own}
-use Rattle.page_lookup.specs.Prelude.{place_found}
-use Rattle.page_sources.specs.Parts.{HaveFewUnits}
+use Rattle.std.proofs.Common.{◌+◌, ◌∙◌, refl, subst, arith}
+use Rattle.page_sources.specs.Found.{IsFoundOn}
 use Rattle.page_sources.proofs.PartLemmas.{kept_more}
 use Rattle.page_sources.proofs.parts.unit_pages.Goals as goal
 
 pub loop-i-init : goal.loop-i-init
 loop-i-init c = (refl, c.requires.stands)
-
-pub csum_on-requires : goal.csum_on-requires
-csum_on-requires c = subst HaveFewUnits (sym c.loop-i.invariant.0) c.requires.inside
 
 pub loop-i-preserved : goal.loop-i-preserved
 loop-i-preserved c =
@@ -17,5 +12,5 @@ loop-i-preserved c =
     let i = c.loop-i.i in (
       c.csum_on.ensures.kept ∙ was.0,
       kept_more c.args.pages.now c.args.first c.args.at i c.in-Some.csum c.loop-i.sums (omega (arith, c.loop-i-test.true, c.requires.few)) was.1
-          (subst (λ ps. place_found ps (c.args.first + i) ≡ Some (own (c.args.at + i) c.in-Some.csum)) was.0 c.in-Some.ensures.stands),
+          (subst (λ ps. IsFoundOn ps (c.args.first + i) (c.args.at + i) c.in-Some.csum) was.0 c.in-Some.ensures.stands),
     )

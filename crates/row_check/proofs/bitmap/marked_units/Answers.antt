@@ -2,6 +2,7 @@ use Rattle.std.proofs.Common.{sym, subst}
 use Rattle.meta_log.specs.Prelude.{width_of}
 use Rattle.store_image.specs.Prelude.{IsLeastInexact}
 use Rattle.bitmap_freelist.proofs.GoodBitmaps.{bitmap_rows}
+use Rattle.row_check.proofs.MarkedRows.{no_slot}
 use Rattle.row_check.proofs.ExactUnits.{AreUnitsOf, found_exact, found_inexact}
 use Rattle.row_check.proofs.bitmap.marked_units.Goals as goal
 
@@ -18,6 +19,7 @@ returns-in-Some-clause-inexact c =
       shared_are = c.in_ok-owners.ensures.shared;
       marked_are = c.in_ok-marked.ensures;
       below = c.in_ok-owners.ensures.below;
+      no_slot = no_slot c.args.sup.now rows c.requires.good;
       most = c.requires.limits.units_most;
     } in
     subst (IsLeastInexact (width_of c.args.sup.now) rows) (sym c.new.ensures)
@@ -34,6 +36,7 @@ returns-clause-exact c =
       shared_are = c.in_ok-owners.ensures.shared;
       marked_are = c.in_ok-marked.ensures;
       below = c.in_ok-owners.ensures.below;
+      no_slot = no_slot c.args.sup.now rows c.requires.good;
       most = c.requires.limits.units_most;
     } in
     found_exact (width_of c.args.sup.now) rows owners.owned owners.shared marked c.args.sup.now.units are c.least_wrong.result

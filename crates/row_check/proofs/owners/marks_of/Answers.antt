@@ -56,7 +56,7 @@ returns c =
     let es = rows_from_to rows [] None in
     let are : AreRows rows es = are_rows rows es refl in
     let at = c.loop-key.invariant.at in
-    let all = all_marked (width_of c.args.sup.now) rows es are at
+    let all = all_marked c.args.sup.now rows c.requires es are at
     (left_none es at (sym c.loop-key.invariant.left ∙ c.in-None.ensures.steps.0)) c.args.sup.now.units c.loop-key.marks
     c.loop-key.invariant.marked in
     (all, c.loop-key.invariant.marked.has.owned, c.loop-key.invariant.marked.has.shared)

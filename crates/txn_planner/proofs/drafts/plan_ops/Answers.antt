@@ -11,10 +11,11 @@ loop-at-init c =
     record {
       inside = omega arith;
       planned = first_planned c.args.width c.args.txn.now rows p
-          (λ layouts. subst (λ coll. IsStateOf rows coll layouts (first_draft rows coll layouts) p) c.coll.ensures (state layouts))
+          (λ layouts. subst (λ coll. IsStateOf rows coll layouts (first_draft c.args.width rows coll layouts) p) c.coll.ensures (state c.args.width layouts))
           c.in_ok-planning.ensures.writes c.in_ok-planning.ensures.places c.in_ok-planning.ensures.taken;
       taken = omega (arith, c.in_ok-planning.ensures.taken);
-      of_values = (subst (λ coll. IsStateOf rows coll (λ o. None) (first_draft rows coll (λ o. None)) p) c.coll.ensures (state (λ o. None))).of_values;
+      of_values = (subst (λ coll. IsStateOf rows coll (λ o. None) (first_draft c.args.width rows coll (λ o. None)) p) c.coll.ensures
+          (state c.args.width (λ o. None))).of_values;
     }
 
 pub loop-at-preserved : goal.loop-at-preserved

@@ -1,6 +1,5 @@
-use Rattle.std.proofs.Common.{◌≡◌, ◌<◌, ℕ, List, ◌∷◌, length, subst, ap, sym, ◌∙◌, arith}
+use Rattle.std.proofs.Common.{◌≡◌, ℕ, List, ◌∷◌, length, subst, ap, sym, ◌∙◌, arith}
 use Rattle.std.specs.Prelude.{◌==◌, ◌++◌}
-use Rattle.row_changes.specs.Prelude.{ChangeMap}
 use Rattle.extent_shards.specs.Prelude.{shard_bytes}
 use Rattle.txn_planner.specs.Laying.{with_shard}
 use Rattle.txn_planner.proofs.Cuts.{cut, AreLeft, first_put, next_put}

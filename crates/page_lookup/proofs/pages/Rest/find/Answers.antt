@@ -2,7 +2,7 @@ use Rattle.std.proofs.Common.{◌≡◌, [], ◌++◌, sym, subst, ◌∙◌, ru
 use Rattle.row_format.specs.Prelude.{ExtentsAscend}
 use Rattle.page_lookup.specs.Prelude.{extents_read, rows_read}
 use Rattle.page_lookup.proofs.Finding.{back_ascends, left_ascend}
-use Rattle.page_lookup.proofs.Rows.{no_row, next_row, nothing_left, found_left, unit_left}
+use Rattle.page_lookup.proofs.Rows.{no_row, next_row, nothing_left, found_left, number_left}
 use Rattle.page_lookup.proofs.pages.Rest.find.Goals as goal
 
 pub skip_rows-requires : goal.skip_rows-requires
@@ -34,12 +34,12 @@ returns-in-None-clause-place c =
     let none : extents_read c.shards.self-inside.width front ≡ [] = search rules in
     nothing_left c.shards.self-inside.width c.args.page front rows c.args.self.now c.shards.invariant.1 none c.in-None.ensures.steps.0
 
-pub place_at_front-requires-clause-unit : goal.place_at_front-requires-clause-unit
-place_at_front-requires-clause-unit c =
+pub place_at_front-requires-clause-number : goal.place_at_front-requires-clause-number
+place_at_front-requires-clause-number c =
     let front = c.shards.self-inside.front.now in
     let rows = c.shards.self-inside.rows in
     let some : extents_read c.shards.self-inside.width front ≡ [] → ⊥ = search rules in
-    unit_left c.shards.self-inside.width c.args.page front rows c.args.self.now c.shards.invariant.1 c.shards.invariant.0 some c.requires
+    number_left c.shards.self-inside.width c.args.page front rows c.args.self.now c.shards.invariant.1 c.shards.invariant.0 some c.requires
 
 pub invariant_of-self-2 : goal.invariant_of-self-2
 invariant_of-self-2 c =

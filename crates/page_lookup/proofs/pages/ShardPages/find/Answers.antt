@@ -5,8 +5,8 @@ use Rattle.page_lookup.proofs.Finding.{leaves_more, found_among}
 use Rattle.page_lookup.proofs.pages.ShardPages.find.Goals as goal
 
 pub find-place-requires : goal.find-place-requires
-find-place-requires c unit csum is =
-    c.requires unit csum (sym (found_among c.args.page c.args.self.now c.rest_for-rest.result c.rest_for-rest.ensures) ∙ is)
+find-place-requires c place is =
+    c.requires place (sym (found_among c.args.page c.args.self.now c.rest_for-rest.result c.rest_for-rest.ensures) ∙ is)
 
 pub invariant_of-self : goal.invariant_of-self
 invariant_of-self c = (

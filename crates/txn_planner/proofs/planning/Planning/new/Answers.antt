@@ -7,7 +7,7 @@ use Rattle.txn_planner.proofs.Firsts.{none_left}
 use Rattle.txn_planner.proofs.planning.Planning.new.Goals as goal
 
 pub returns-clause-state : goal.returns-clause-state
-returns-clause-state c layouts = record {
+returns-clause-state c width layouts = record {
   there = c.in_ok-there.ensures;
   touched = λ o t is. absurd (let e = sym (ap (λ m. finite.get m o) c.new.ensures ∙ finite.get-empty byte_order o) ∙ is in cc);
   untouched = λ o name is. refl;
@@ -17,7 +17,7 @@ returns-clause-state c layouts = record {
       ap (λ x. unwrap_or x (finite.get c.args.rows.now.rows key)) (ap (λ m. finite.get m key) c.new-2.ensures ∙ finite.get-empty byte_order key);
   taken = refl;
   left = λ unit.
-      let all = none_left c.args.rows.now.rows c.args.coll.now layouts unit in (
+      let all = none_left width c.args.rows.now.rows c.args.coll.now layouts unit in (
         λ k. all.0 (subst (λ us. Contains us unit) c.new-5.ensures.items k),
         λ l. subst (λ us. Contains us unit) (sym c.new-5.ensures.items) (all.1 l),
       );

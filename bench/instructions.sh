@@ -50,7 +50,7 @@ done
   for ((i = 0; i < 512; i++)); do printf 'write 1.0_head a %d fill:%02x:4096\n' $((i * 211 % 512 * 4096)) $((i % 256)); done
 } | set_up 4096 12000
 for ((i = 0; i < 100; i++)); do printf 'write 1.0_head a %d fill:%02x:4096\n' $((i * 131 % 512 * 4096)) "$i"; done |
-  each 'a page over a page of 512 scattered ones' 120000 100
+  each 'a page over a page of 512 scattered ones' 120000 100 # beyond since places may be on slots: docs/speed.md says why
 
 { echo 'mkcoll 1.0_head'; echo 'touch 1.0_head o'; } | set_up 4096 12000
 for ((i = 0; i < 40; i++)); do

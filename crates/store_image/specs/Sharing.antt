@@ -21,7 +21,8 @@ pub record BecomeSlots (w : Width) (rows later : Rows) (c o : List ℕ) (from un
   pub no_page : (p : PageName) (index : ℕ) → ¬ Names w rows sbid index p
   pub was : (i : ℕ) → i < count → (csum : ℕ) × IsPageAt w rows c o (from + i) (own (unit + i) csum)
   pub now : (i : ℕ) (place : Place) → i < count → IsPageAt w later c o (from + i) place ↔ (place ≡ slot sbid i)
-  pub others : (d u : List ℕ) (page : ℕ) (place : Place) → ¬ IsOneOf c o from count d u page → IsPageAt w later d u page place ↔ IsPageAt w rows d u page place
+  pub others : (d u : List ℕ) (page : ℕ) (place : Place) → ¬ IsOneOf c o from count d u page →
+      IsPageAt w later d u page place ↔ IsPageAt w rows d u page place
   pub slots : (index at : ℕ) (x : Slot) → HasSlot w later sbid index at x → (index < count) × (at ≡ unit + index) × (x.count ≡ 1)
   pub each : (i : ℕ) → i < count → (x : Slot) × HasSlot w later sbid i (unit + i) x
   pub blobs : (other index at : ℕ) (x : Slot) → other ≢ sbid → HasSlot w later other index at x ↔ HasSlot w rows other index at x

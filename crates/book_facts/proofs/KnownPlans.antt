@@ -1,6 +1,6 @@
 -- What is known of the plan of an accepted transaction.
 use Rattle.std.proofs.Common.{ℕ, Contains}
-use Rattle.run_facts.proofs.Common.{Disk, IsSuper, Change, names_of, free_units, Plan, IsGood, PlansKeep, IsKnown}
+use Rattle.run_facts.proofs.Common.{Disk, IsSuper, width_of, Change, names_of, free_units, Plan, IsGood, PlansKeep, IsKnown}
 use Rattle.store_image.specs.Prelude.{IsMarked}
 use Rattle.plan_drafts.specs.Prelude.{fresh_units, Suits, PlanKeeps, PlanMakes, PlanTakes}
 use Rattle.plan_rows.proofs.Agreeing.{agree_itself}
@@ -12,7 +12,7 @@ use Rattle.book_facts.proofs.Commits.{all_then}
 -- The submitted rows are good and suit the plan, and it keeps, makes and takes what plans do.
 pub record IsKnownPlan (s : State) (change : Change) (plan : Plan) : Type 0 where
   pub good : IsGood s.log.sup s.submitted
-  pub suits : Suits (names_of change) s.submitted plan s.submitted
+  pub suits : Suits (width_of s.log.sup) (names_of change) s.submitted plan s.submitted
   pub keeps : PlanKeeps s.log.sup (names_of change) s.submitted plan
   pub makes : PlanMakes s.log.sup change s.submitted plan
   pub takes : PlanTakes s.space change plan
@@ -27,7 +27,7 @@ known_plan plans s d client line change s' kept known does =
     record {
       good = submitted_good s limits space rows;
       suits = record {
-        agree = agree_itself (names_of change) s.submitted;
+        agree = agree_itself (width_of s.log.sup) (names_of change) s.submitted;
         unmarked = all_then (λ u. Contains (free_units s.space) u) (λ u. ¬ IsMarked s.submitted u) (fresh_units does.plan)
             (λ u free. ((submitted_free s limits space rows).free u free).2) takes.free;
       };

@@ -9,6 +9,7 @@ use Rattle.unit_fields.specs.declared.width.Width.{Width}
 use Rattle.block_device.specs.Prelude.{last, IsClean, Disk, History, Rose}
 use Rattle.end_points.specs.Bay.{Names, BayView, StartsWith, start_of}
 use Rattle.end_points.specs.declared.bay.How.TheVariants.{Plain}
+use Rattle.meta_rows.specs.Prelude.{Rows}
 use Rattle.meta_rows.specs.declared.row_op.RowOp.{RowOp}
 use Rattle.meta_log.specs.declared.slot.Super.{Super}
 use Rattle.meta_log.specs.Prelude.{AreRowsOf, AreRecords, active_half, width_of}
@@ -23,7 +24,7 @@ use Rattle.store_steps.specs.Prelude.{Found, free_count}
 use Rattle.script_reading.specs.Prelude.{HasBadScript, HasFault}
 use Rattle.client_runs.specs.declared.run_fail.RunFail.{RunFail}
 use Rattle.client_runs.specs.declared.run_fail.RunFail.TheVariants as run
-use Rattle.log_replay.specs.Prelude.{IsAbout, IsFoundIn, IsUnopenable}
+use Rattle.log_replay.specs.Prelude.{IsAbout, IsFoundIn, HasBlob, IsUnopenable}
 use Rattle.log_replay.specs.declared.opening.MountFail.TheVariants as fail
 use Rattle.run_texts.specs.declared.work_end.WorkEnd.{WorkEnd}
 use Rattle.run_texts.specs.declared.work_end.WorkEnd.TheVariants.{Done, BadLine, NoSuper, BadRow, NotExact, WornOut}
@@ -99,9 +100,11 @@ module _ (dev : List ℕ) (names : Names) (start : HasGoodStore names dev) where
       let sup : g.sup ≡ found.sup = one_sup start.contents found g start.is_found bad.1 in
       let epoch : g.sup.epoch ≡ found.sup.epoch = ap (λ (s : Super). s.epoch) sup in
       let number : g.number ≡ found.number = one_number start.contents found g start.is_found bad.1 in
+      let rows : g.rows ≡ found.rows = one_rows start.contents found g start.is_found bad.1 in
       elim bad.2.2 [
-        | inl old ↦ absurd (omega (arith, old.0, epoch, start.numbers.0))
-        | inr high ↦ absurd (omega (arith, high.1, number, start.numbers.1))
+        | inl old ↦ absurd (omega (arith, old.0, epoch, start.numbers.epoch))
+        | inr (inl high) ↦ absurd (omega (arith, high.1, number, start.numbers.number))
+        | inr (inr shared) ↦ absurd (omega (arith, shared.2, start.numbers.blobs value (subst (λ (r : Rows). HasBlob r value) rows shared.3.has)))
       ]
 
   -- the device that the bay hands out tells these contents

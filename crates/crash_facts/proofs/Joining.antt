@@ -135,12 +135,12 @@ module _ (sup : Super) (rows : Rows) (xs : List Intent) (x : Intent) (limits : I
     abbrev was : Objects
     was = replay objects (changes_of es rest)
 
-    unread_suits : Suits (names_of of_x.change) (rows_by rows xs) (plan_of x) before
-    unread_suits = subst (λ (names : List (List ℕ)). Suits names (rows_by rows xs) (plan_of x) before) (sym of_x.same_names)
+    unread_suits : Suits w (names_of of_x.change) (rows_by rows xs) (plan_of x) before
+    unread_suits = subst (λ (names : List (List ℕ)). Suits w names (rows_by rows xs) (plan_of x) before) (sym of_x.same_names)
         (suits_last sup rows xs x limits good each apart can some has)
 
     -- whatever old bytes were read
-    suits : Suits (names_of of_x.change) (rows_by rows xs) plan before
+    suits : Suits w (names_of of_x.change) (rows_by rows xs) plan before
     suits = record { agree = unread_suits.agree; unmarked = unread_suits.unmarked }
 
     is_good : IsGood sup before

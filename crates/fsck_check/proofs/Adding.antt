@@ -1,5 +1,5 @@
 -- Findings of units, compared one behind the other.
-use Rattle.std.proofs.Common.{◌≡◌, ◌==◌, true, inl, inr, ℕ, ◌+◌, ◌*◌, ◌<◌, ◌≤◌, List, [], ◌∷◌, ◌++◌, Option, Some, None, length, take, drop, get_or, refl, sym, ap, subst, ◌∙◌, arith, append_assoc, append-nil, length-take, length-append}
+use Rattle.std.proofs.Common.{◌≡◌, ◌==◌, true, inl, inr, ℕ, zero, suc, ◌+◌, ◌*◌, ◌<◌, ◌≤◌, List, [], ◌∷◌, ◌++◌, Option, Some, None, length, take, drop, get_or, refl, sym, ap, subst, ◌∙◌, arith, append_assoc, append-nil, length-take, length-append}
 use Rattle.std.specs.Prelude.{IfSome}
 use Rattle.std.proofs.lemmas.Bool.Decides.{nat_tests}
 use Rattle.std.proofs.lemmas.List.{take_more}
@@ -9,8 +9,11 @@ use Rattle.block_device.specs.Prelude.{Disk, History, HasRead, HasNoBadDone, las
 use Rattle.read_facts.specs.Prelude.{IsHeldAt}
 use Rattle.findings.specs.declared.finding.Finding.{Finding}
 use Rattle.findings.specs.declared.finding.Finding.TheVariants.{BadSum}
-use Rattle.row_format.specs.Prelude.{Extent}
-use Rattle.fsck_check.specs.Sums.{UnitSum, unit_sums_from, extent_places, shard_places, HasSum, HasOther, FindsBadSums, AddsSums, IsUnitIn}
+use Rattle.unit_fields.specs.declared.width.Width.{Width}
+use Rattle.meta_rows.specs.Prelude.{Rows}
+use Rattle.row_format.specs.Prelude.{Extent, slot}
+use Rattle.plan_rows.specs.Prelude.{page_unit}
+use Rattle.fsck_check.specs.Sums.{UnitSum, sum_at, slot_sums, unit_sums_from, extent_places, shard_places, HasSum, HasOther, FindsBadSums, AddsSums, IsUnitIn}
 
 module _ (held : ℕ → List ℕ → Type 0) where
   pub sums_joined : (ps qs : List UnitSum) (a b : List Finding) → FindsBadSums held ps a → FindsBadSums held qs b → FindsBadSums held (ps ++ qs) (a ++ b)
@@ -104,18 +107,40 @@ piece_more held unit at done front x y z is before more =
 
 -- ---- the extents of a shard
 
-shard_joined : (a b : List Extent) → shard_places (a ++ b) ≡ shard_places a ++ shard_places b
-shard_joined [] b = refl
-shard_joined (e ∷ a) b = ap (λ (l : List UnitSum). extent_places e ++ l) (shard_joined a b) ∙ sym (append_assoc (extent_places e) (shard_places a) (shard_places b))
+module _ (w : Width) (rows : Rows) where
+  shard_joined : (a b : List Extent) → shard_places w rows (a ++ b) ≡ shard_places w rows a ++ shard_places w rows b
+  shard_joined [] b = refl
+  shard_joined (e ∷ a) b =
+      ap (λ (l : List UnitSum). extent_places w rows e ++ l) (shard_joined a b)
+      ∙ sym (append_assoc (extent_places w rows e) (shard_places w rows a) (shard_places w rows b))
 
-pub extent_more : (held : ℕ → List ℕ → Type 0) (es : List Extent) (i : ℕ) (e : Extent) (x y z : List Finding) → i < length es → e ≡ get_or es i e
-    → AddsSums held (shard_places (take i es)) x y → AddsSums held (extent_places e) y z → AddsSums held (shard_places (take (i + 1) es)) x z
-extent_more held es i e x y z lt is before more =
-    let one : shard_places (e ∷ []) ≡ extent_places e = append-nil (extent_places e) in
-    let list : shard_places (take (i + 1) es) ≡ shard_places (take i es) ++ extent_places e =
-    ap shard_places (take_more es i e lt ∙ ap (λ (f : Extent). take i es ++ f ∷ []) (sym is)) ∙ shard_joined (take i es) (e ∷ [])
-    ∙ ap (λ (l : List UnitSum). shard_places (take i es) ++ l) one in
-    subst (λ (l : List UnitSum). AddsSums held l x z) (sym list) (adds_joined held (shard_places (take i es)) (extent_places e) x y z before more)
+  pub extent_more : (held : ℕ → List ℕ → Type 0) (es : List Extent) (i : ℕ) (e : Extent) (x y z : List Finding) → i < length es → e ≡ get_or es i e
+      → AddsSums held (shard_places w rows (take i es)) x y → AddsSums held (extent_places w rows e) y z
+      → AddsSums held (shard_places w rows (take (i + 1) es)) x z
+  extent_more held es i e x y z lt is before more =
+      let one : shard_places w rows (e ∷ []) ≡ extent_places w rows e = append-nil (extent_places w rows e) in
+      let list : shard_places w rows (take (i + 1) es) ≡ shard_places w rows (take i es) ++ extent_places w rows e =
+      ap (shard_places w rows) (take_more es i e lt ∙ ap (λ (f : Extent). take i es ++ f ∷ []) (sym is)) ∙ shard_joined (take i es) (e ∷ [])
+      ∙ ap (λ (l : List UnitSum). shard_places w rows (take i es) ++ l) one in
+      subst (λ (l : List UnitSum). AddsSums held l x z) (sym list)
+      (adds_joined held (shard_places w rows (take i es)) (extent_places w rows e) x y z before more)
+
+  -- one slot more
+  slots_joined : (sbid index n : ℕ) → slot_sums w rows sbid index (suc n) ≡ slot_sums w rows sbid index n ++ sum_at (page_unit w rows (slot sbid (index + n))) ∷ []
+  slots_joined sbid index zero = let same : index ≡ index + 0 = omega arith in ap (λ k. sum_at (page_unit w rows (slot sbid k)) ∷ []) same
+  slots_joined sbid index (suc n) =
+      let next : (index + 1) + n ≡ index + suc n = omega arith in
+      ap (λ (l : List UnitSum). sum_at (page_unit w rows (slot sbid index)) ∷ l)
+      (slots_joined sbid (index + 1) n
+      ∙ ap (λ k. slot_sums w rows sbid (index + 1) n ++ sum_at (page_unit w rows (slot sbid k)) ∷ []) next)
+
+  pub slot_more : (held : ℕ → List ℕ → Type 0) (sbid index i : ℕ) (x y z : List Finding) → AddsSums held (slot_sums w rows sbid index i) x y
+      → AddsSums held (sum_at (page_unit w rows (slot sbid (index + i))) ∷ []) y z → AddsSums held (slot_sums w rows sbid index (i + 1)) x z
+  slot_more held sbid index i x y z before more =
+      let on : suc i ≡ i + 1 = omega arith in
+      subst (λ n. AddsSums held (slot_sums w rows sbid index n) x z) on
+      (subst (λ (l : List UnitSum). AddsSums held l x z) (sym (slots_joined sbid index i))
+      (adds_joined held (slot_sums w rows sbid index i) (sum_at (page_unit w rows (slot sbid (index + i))) ∷ []) x y z before more))
 
 -- ---- units of bytes
 

@@ -10,7 +10,7 @@ use Rattle.log_replay.specs.declared.opening.MountFail.{MountFail}
 use Rattle.log_replay.specs.declared.opening.MountFail.TheVariants as mount
 use Rattle.findings.specs.declared.finding.Finding.{Finding}
 use Rattle.findings.specs.declared.finding.Finding.TheVariants.{Leaked, Unmarked, Doubled}
-use Rattle.findings.specs.Findings.{AreFindings}
+use Rattle.findings.specs.Findings.{SlotCount, wrong_count, AreFindings}
 use Rattle.fsck_check.specs.declared.fail.FsckFail.{FsckFail}
 use Rattle.fsck_check.specs.declared.fail.FsckFail.TheVariants.{Memory, NoSuper, Fault}
 
@@ -42,6 +42,6 @@ IsFsckCause before now Memory = Unit {0}
 IsFsckCause before now NoSuper = ⊥
 IsFsckCause before now Fault = Rose before now
 
--- the findings of units that are leaked, unmarked or doubled
-abbrev pub found_units : List ℕ → List ℕ → List ℕ → List Finding
-found_units leaked unmarked doubled = map Leaked leaked ++ (map Unmarked unmarked ++ map Doubled doubled)
+-- the findings of units that are leaked, unmarked or doubled, and of slots with wrong counts
+abbrev pub found_units : List ℕ → List ℕ → List ℕ → List SlotCount → List Finding
+found_units leaked unmarked doubled counts = map Leaked leaked ++ (map Unmarked unmarked ++ (map Doubled doubled ++ map wrong_count counts))

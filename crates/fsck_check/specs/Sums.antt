@@ -1,11 +1,13 @@
 -- The units on which pages stand, compared one behind the other with the checksums that are kept for the pages.
-use Rattle.std.specs.Prelude.{◌≡◌, ◌≢◌, ◌⊎◌, ℕ, ◌+◌, ◌<◌, List, [], ◌∷◌, ◌++◌, length, map}
-use Rattle.std.specs.List.{flat_map}
+use Rattle.std.specs.Prelude.{◌≡◌, ◌≢◌, ◌⊎◌, ℕ, zero, suc, ◌+◌, ◌<◌, ◌≤◌, List, [], ◌∷◌, ◌++◌, length, map}
+use Rattle.std.specs.List.{flat_map, AllByRecursion}
 use Rattle.byte_maps.specs.Units.{unit_at}
 use Rattle.unit_fields.specs.declared.width.Width.{Width}
 use Rattle.crc32c_csum.specs.Prelude.{crc32c}
 use Rattle.meta_rows.specs.Prelude.{Rows}
-use Rattle.row_format.specs.Prelude.{Body, private, shared, Extent}
+use Rattle.row_format.specs.Prelude.{Body, private, shared, Extent, slot}
+use Rattle.store_image.specs.Prelude.{PageUnit}
+use Rattle.plan_rows.specs.Prelude.{page_unit}
 use Rattle.row_format.specs.Row as format
 use Rattle.row_reading.specs.Reading.{SpellsRow}
 use Rattle.findings.specs.declared.finding.Finding.{Finding}
@@ -21,20 +23,43 @@ abbrev pub unit_sums_from : ℕ → List ℕ → List UnitSum
 unit_sums_from unit [] = []
 unit_sums_from unit (csum ∷ csums) = (unit, csum) ∷ unit_sums_from (unit + 1) csums
 
--- (Where no row is bad, no page stands on a slot so far.)
-abbrev pub body_places : Body → List UnitSum
-body_places (private unit csums) = unit_sums_from unit csums
-body_places (shared sbid first count) = []
+-- the unit of a place, and its checksum
+abbrev pub sum_at : PageUnit → UnitSum
+sum_at on = (on.unit, on.csum)
 
-abbrev pub extent_places : Extent → List UnitSum
-extent_places e = body_places e.body
+-- so many consecutive slots of a blob, as its row says them
+abbrev pub slot_sums : Width → Rows → ℕ → ℕ → ℕ → List UnitSum
+slot_sums w rows sbid index zero = []
+slot_sums w rows sbid index (suc n) = sum_at (page_unit w rows (slot sbid index)) ∷ slot_sums w rows sbid (index + 1) n
 
-abbrev pub shard_places : List Extent → List UnitSum
-shard_places es = flat_map extent_places es
+abbrev pub body_places : Width → Rows → Body → List UnitSum
+body_places w rows (private unit csums) = unit_sums_from unit csums
+body_places w rows (shared sbid first count) = slot_sums w rows sbid first count
+
+abbrev pub extent_places : Width → Rows → Extent → List UnitSum
+extent_places w rows e = body_places w rows e.body
+
+abbrev pub shard_places : Width → Rows → List Extent → List UnitSum
+shard_places w rows es = flat_map (extent_places w rows) es
 
 -- the places of a row, if it is a shard
-abbrev pub row_places : format.Row → List UnitSum
-row_places row = shard_places (format.shard_in row).extents
+abbrev pub row_places : Width → Rows → format.Row → List UnitSum
+row_places w rows row = shard_places w rows (format.shard_in row).extents
+
+-- the units of these pages are below this one
+abbrev pub BodyInside : Width → Rows → ℕ → Body → Type 0
+BodyInside w rows units (private unit csums) = unit + length csums ≤ units
+BodyInside w rows units (shared sbid first count) =
+    (first + count ≤ 65536) × ((i : ℕ) → i < count → (page_unit w rows (slot sbid (first + i))).unit < units)
+
+abbrev pub AllInside : Width → Rows → ℕ → List Extent → Type 0
+AllInside w rows units es = AllByRecursion (λ e. BodyInside w rows units e.body) es
+
+-- a key and a value spell a row, and its units are below this one
+pub record SpellsInside (w : Width) (rows : Rows) (key value : List ℕ) (units : ℕ) : Type 0 where
+  pub row : format.Row
+  pub spells : SpellsRow w key value row
+  pub inside : AllInside w rows units (format.shard_in row).extents
 
 -- the unit holds bytes with the checksum
 abbrev pub HasSum : (ℕ → List ℕ → Type 0) → UnitSum → Type 0
@@ -59,8 +84,8 @@ abbrev pub AddsSums : (ℕ → List ℕ → Type 0) → List UnitSum → List Fi
 AddsSums held places old new = (out : List Finding) × (new ≡ old ++ out) × FindsBadSums held places out
 
 -- so were those of the row that a key and a value spell
-abbrev pub AddsRowSums : Width → (ℕ → List ℕ → Type 0) → List ℕ → List ℕ → List Finding → List Finding → Type 0
-AddsRowSums w held key value old new = (row : format.Row) → SpellsRow w key value row → AddsSums held (row_places row) old new
+abbrev pub AddsRowSums : Width → Rows → (ℕ → List ℕ → Type 0) → List ℕ → List ℕ → List Finding → List Finding → Type 0
+AddsRowSums w rows held key value old new = (row : format.Row) → SpellsRow w key value row → AddsSums held (row_places w rows row) old new
 
 -- so many units from one on hold these bytes, one behind the other
 abbrev pub IsUnitIn : ℕ → ℕ → List ℕ → ℕ → List ℕ → Type 0

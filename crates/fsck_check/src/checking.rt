@@ -3,7 +3,7 @@ ghost use Rattle.std.specs.Prelude.{◌≡◌, ◌++◌, ◌≤◌, [], IfOk, If
 ghost use Rattle.meta_log.specs.Prelude.{IsSuper};
 ghost use Rattle.store_image.specs.Prelude.{NoBadRow};
 ghost use Rattle.read_facts.specs.Prelude.{IsHeldAt};
-ghost use Rattle.findings.specs.Findings.{FindsNoBadRow};
+ghost use Rattle.findings.specs.Findings.{FindsNoBadRow, wrong_count};
 ghost use Rattle.findings.specs.declared.finding.Finding.TheVariants as kinds;
 ghost use Rattle.log_replay.specs.Opening.{IsUnfound};
 ghost use Rattle.fsck_check.specs.Checking.{FoundAll, FailsFsck, IsFsckCause, found_units, fsck_fail_of_mount};
@@ -14,7 +14,7 @@ use block_device::Device;
 use byte_maps::{Bytes, Items};
 use findings::Finding;
 use log_replay::{FoundStore, MountFail, find_store};
-use row_check::{WrongUnits, bad_rows, find_bad_row, wrong_units};
+use row_check::{SlotCount, WrongUnits, bad_rows, find_bad_row, wrong_units};
 use std::alloc::{AllocError, Global};
 
 // Why no store was found.
@@ -72,13 +72,29 @@ fn push_doubled(units: &[u32], found: &mut Vec<Finding>) -> Result<(), AllocErro
     Ok(())
 }
 
+// The same for slots with wrong counts.
+fn push_counts(counts: &[SlotCount], found: &mut Vec<Finding>) -> Result<(), AllocError>
+    ensures { OnOk result (found.new.items ≡ found.old.items ++ map wrong_count counts.now) }
+{
+    for count in counts {
+        found.push(Finding::WrongCount {
+            unit: count.unit,
+            kept: count.kept,
+            counted: count.counted,
+        })?;
+    }
+    Ok(())
+}
+
 // The findings of units, behind the others.
 fn push_units(units: &WrongUnits, found: &mut Vec<Finding>) -> Result<(), AllocError>
-    ensures { OnOk result (found.new.items ≡ found.old.items ++ found_units units.now.leaked.items units.now.unmarked.items units.now.doubled.items) }
+    ensures { OnOk result (found.new.items ≡ found.old.items
+        ++ found_units units.now.leaked.items units.now.unmarked.items units.now.doubled.items units.now.counts.items) }
 {
     push_leaked(&units.leaked, found)?;
     push_unmarked(&units.unmarked, found)?;
-    push_doubled(&units.doubled, found)
+    push_doubled(&units.doubled, found)?;
+    push_counts(&units.counts, found)
 }
 
 // What is wrong with a store without bad rows.
@@ -104,9 +120,9 @@ fn pages_and_units<D: Device>(
 }
 
 /// Everything that is wrong with the store on the device: its bad rows; or where there is none, the pages whose bytes have another checksum than
-/// the one that is kept, the leaked units, those that aren't marked, and those with two owners. It reads both slots, the active half of the log
-/// and each unit on which a page stands, and submits nothing. Nothing is in flight when it is called. The rows are walked through up to the first
-/// bad one, and once more where there is one.
+/// the one that is kept, the leaked units, those that aren't marked, those with two owners, and the slots of shared blobs with wrong counts. It
+/// reads both slots, the active half of the log and each unit on which a page stands, and submits nothing. Nothing is in flight when it is
+/// called. The rows are walked through up to the first bad one, and once more where there is one.
 pub fn fsck<D: Device>(alloc: Global, dev: &mut D) -> Result<Vec<Finding>, FsckFail>
     requires idle { (D.disk dev.old).flights ≡ [] }
     ensures same { D.disk dev.new ≡ D.disk dev.old }

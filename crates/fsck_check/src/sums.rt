@@ -1,15 +1,29 @@
 //! The bytes of the units on which pages stand, compared with the checksums that are kept for the pages.
-ghost use Rattle.std.specs.Prelude.{◌≡◌, ◌+◌, ◌*◌, ◌<◌, ◌≤◌, ◌^◌, [], length, IfOk, OnOk, IsErrOf};
+ghost use Rattle.std.specs.Prelude.{◌≡◌, ◌+◌, ◌*◌, ◌<◌, ◌≤◌, ◌^◌, [], ◌∷◌, length, IfOk, OnOk, IsErrOf};
 ghost use Rattle.byte_maps.specs.Units.{IsUnits, unit_at};
 ghost use Rattle.block_device.specs.Prelude.{Rose};
 ghost use Rattle.meta_log.specs.Prelude.{IsSuper, width_of};
-ghost use Rattle.row_format.specs.Prelude.{Extent};
+ghost use Rattle.row_format.specs.Prelude.{Extent, shared, slot};
+ghost use Rattle.plan_rows.specs.Prelude.{page_unit};
+ghost use Rattle.plan_rows.specs.Stores.{AreRowsOfWidth};
 ghost use Rattle.store_image.specs.Prelude.{NoBadRow};
 ghost use Rattle.read_facts.specs.Prelude.{IsHeldAt};
-ghost use Rattle.row_check.specs.Marks.{EndsBy, AllEndBy};
-ghost use Rattle.row_check.specs.Owned.{SpellsRowWithin};
-ghost use Rattle.fsck_check.specs.Sums.{IsUnitIn, unit_sums_from, extent_places, shard_places, AddsSums, AddsRowSums, FindsSums};
+ghost use Rattle.fsck_check.specs.Sums.{
+  IsUnitIn,
+  unit_sums_from,
+  sum_at,
+  slot_sums,
+  extent_places,
+  shard_places,
+  BodyInside,
+  AllInside,
+  SpellsInside,
+  AddsSums,
+  AddsRowSums,
+  FindsSums,
+};
 
+use blob_map::{At, Place};
 use block_device::{Device, Failed};
 use byte_maps::Items;
 use crc32c_csum::crc32c;
@@ -17,6 +31,7 @@ use findings::Finding;
 use meta_log::Super;
 use meta_rows::RowTable;
 use onode_codec::{Body, Extent, decode_extents};
+use place_units::page_unit;
 use row_check::is_shard;
 use std::alloc::{AllocError, Global};
 use unit_fields::Width;
@@ -109,18 +124,73 @@ fn check_units<D: Device>(
     Ok(())
 }
 
+// Does so for the unit of a slot of a blob.
+fn check_slot<D: Device>(
+    dev: &mut D,
+    width: Width,
+    rows: &RowTable,
+    sbid: u64,
+    index: u16,
+    buffer: &mut Vec<u8>,
+    found: &mut Items<Finding>,
+) -> Result<(), Failed>
+    requires idle { (D.disk dev.old).flights ≡ [] }
+    requires units { (D.disk dev.old).units ≤ 1048576 }
+    requires rows { AreRowsOfWidth width rows.now.rows }
+    requires inside { (page_unit width rows.now.rows (slot sbid index)).unit < (D.disk dev.old).units }
+    ensures same { D.disk dev.new ≡ D.disk dev.old }
+    ensures sums { OnOk result (AddsSums (IsHeldAt (D.disk dev.old)) (sum_at (page_unit width rows.now.rows (slot sbid index)) ∷ []) found.old found.new) }
+    ensures later { D.faults dev.old ≤ D.faults dev.new }
+    ensures cause { IsErrOf result Failed.Fault → Rose (D.faults dev.old) (D.faults dev.new) }
+{
+    let place = Place {
+        at: At::Slot { sbid, index },
+    };
+    let on = page_unit(width, rows, &place);
+    check_units(dev, on.unit.number(), &[on.csum], buffer, found)
+}
+
+// Does so for the units of consecutive slots.
+fn check_slots<D: Device>(
+    dev: &mut D,
+    width: Width,
+    rows: &RowTable,
+    sbid: u64,
+    first: u16,
+    count: u16,
+    buffer: &mut Vec<u8>,
+    found: &mut Items<Finding>,
+) -> Result<(), Failed>
+    requires idle { (D.disk dev.old).flights ≡ [] }
+    requires units { (D.disk dev.old).units ≤ 1048576 }
+    requires rows { AreRowsOfWidth width rows.now.rows }
+    requires inside { BodyInside width rows.now.rows (D.disk dev.old).units (shared sbid first count) }
+    ensures same { D.disk dev.new ≡ D.disk dev.old }
+    ensures sums { OnOk result (AddsSums (IsHeldAt (D.disk dev.old)) (slot_sums width rows.now.rows sbid first count) found.old found.new) }
+    ensures later { D.faults dev.old ≤ D.faults dev.new }
+    ensures cause { IsErrOf result Failed.Fault → Rose (D.faults dev.old) (D.faults dev.new) }
+{
+    for i in 0..count {
+        check_slot(dev, width, rows, sbid, first + i, buffer, found)?;
+    }
+    Ok(())
+}
+
 // Does so for the units of an extent.
 fn check_extent<D: Device>(
     dev: &mut D,
+    width: Width,
+    rows: &RowTable,
     extent: &Extent,
     buffer: &mut Vec<u8>,
     found: &mut Items<Finding>,
 ) -> Result<(), Failed>
     requires idle { (D.disk dev.old).flights ≡ [] }
     requires units { (D.disk dev.old).units ≤ 1048576 }
-    requires inside { EndsBy (D.disk dev.old).units extent.now.body }
+    requires rows { AreRowsOfWidth width rows.now.rows }
+    requires inside { BodyInside width rows.now.rows (D.disk dev.old).units extent.now.body }
     ensures same { D.disk dev.new ≡ D.disk dev.old }
-    ensures sums { OnOk result (AddsSums (IsHeldAt (D.disk dev.old)) (extent_places extent.now) found.old found.new) }
+    ensures sums { OnOk result (AddsSums (IsHeldAt (D.disk dev.old)) (extent_places width rows.now.rows extent.now) found.old found.new) }
     ensures later { D.faults dev.old ≤ D.faults dev.new }
     ensures cause { IsErrOf result Failed.Fault → Rose (D.faults dev.old) (D.faults dev.new) }
 {
@@ -128,27 +198,32 @@ fn check_extent<D: Device>(
         Body::Private { unit, csums } => {
             check_units(dev, unit.number(), csums.as_slice(), buffer, found)
         }
-        Body::Shared { .. } => Ok(()),
+        Body::Shared { sbid, first, count } => {
+            check_slots(dev, width, rows, *sbid, *first, *count, buffer, found)
+        }
     }
 }
 
 // Does so for the extents of a shard.
 fn check_shard<D: Device>(
     dev: &mut D,
+    width: Width,
+    rows: &RowTable,
     extents: &[Extent],
     buffer: &mut Vec<u8>,
     found: &mut Items<Finding>,
 ) -> Result<(), Failed>
     requires idle { (D.disk dev.old).flights ≡ [] }
     requires units { (D.disk dev.old).units ≤ 1048576 }
-    requires inside { AllEndBy (D.disk dev.old).units extents.now }
+    requires rows { AreRowsOfWidth width rows.now.rows }
+    requires inside { AllInside width rows.now.rows (D.disk dev.old).units extents.now }
     ensures same { D.disk dev.new ≡ D.disk dev.old }
-    ensures sums { OnOk result (AddsSums (IsHeldAt (D.disk dev.old)) (shard_places extents.now) found.old found.new) }
+    ensures sums { OnOk result (AddsSums (IsHeldAt (D.disk dev.old)) (shard_places width rows.now.rows extents.now) found.old found.new) }
     ensures later { D.faults dev.old ≤ D.faults dev.new }
     ensures cause { IsErrOf result Failed.Fault → Rose (D.faults dev.old) (D.faults dev.new) }
 {
     for extent in extents {
-        check_extent(dev, extent, buffer, found)?;
+        check_extent(dev, width, rows, extent, buffer, found)?;
     }
     Ok(())
 }
@@ -158,6 +233,7 @@ fn check_row<D: Device>(
     alloc: Global,
     dev: &mut D,
     width: Width,
+    rows: &RowTable,
     key: &[u8],
     value: &[u8],
     buffer: &mut Vec<u8>,
@@ -165,9 +241,10 @@ fn check_row<D: Device>(
 ) -> Result<(), Failed>
     requires idle { (D.disk dev.old).flights ≡ [] }
     requires units { (D.disk dev.old).units ≤ 1048576 }
-    requires spells { SpellsRowWithin width key.now value.now (D.disk dev.old).units }
+    requires rows { AreRowsOfWidth width rows.now.rows }
+    requires spells { SpellsInside width rows.now.rows key.now value.now (D.disk dev.old).units }
     ensures same { D.disk dev.new ≡ D.disk dev.old }
-    ensures sums { OnOk result (AddsRowSums width (IsHeldAt (D.disk dev.old)) key.now value.now found.old found.new) }
+    ensures sums { OnOk result (AddsRowSums width rows.now.rows (IsHeldAt (D.disk dev.old)) key.now value.now found.old found.new) }
     ensures later { D.faults dev.old ≤ D.faults dev.new }
     ensures cause { IsErrOf result Failed.Fault → Rose (D.faults dev.old) (D.faults dev.new) }
 {
@@ -181,11 +258,11 @@ fn check_row<D: Device>(
     let Some(extents) = decoded else {
         unreachable!();
     };
-    check_shard(dev, &extents, buffer, found)
+    check_shard(dev, width, rows, &extents, buffer, found)
 }
 
-/// The bad pages of a store without bad rows, as findings: the units of each shard are read, at most 64 at a time, in the order of the keys, which
-/// is that of collections, objects and pages.
+/// The bad pages of a store without bad rows, as findings: the units of each shard are read, at most 64 at a time, or one by one where pages are
+/// on slots, in the order of the keys, which is that of collections, objects and pages.
 pub(crate) fn bad_sums<D: Device>(
     alloc: Global,
     dev: &mut D,
@@ -209,6 +286,7 @@ pub(crate) fn bad_sums<D: Device>(
             alloc,
             dev,
             width,
+            rows,
             key.as_slice(),
             value.as_slice(),
             &mut buffer,

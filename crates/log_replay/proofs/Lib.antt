@@ -15,4 +15,5 @@ pub mod OtherHalfLemmas
 pub mod ReplayFit
 pub mod SplitLemmas
 pub mod NewSpace
+pub mod BlobNumbers
 pub mod JudgeLemmas

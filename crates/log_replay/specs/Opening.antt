@@ -2,9 +2,11 @@
 use Rattle.std.specs.Prelude.{◌≡◌, ◌⊎◌, ◌↔◌, true, ℕ, ◌+◌, ◌^◌, ◌<◌, ◌≤◌, nat_lt, if◌then◌else◌, List, Option, Some, None, IfSome}
 use Rattle.byte_maps.specs.Units.{unit_at, zeros}
 use Rattle.block_device.specs.Prelude.{last, Disk, Rose}
+use Rattle.meta_rows.specs.Prelude.{Rows}
 use Rattle.meta_log.specs.declared.slot.Super.{Super}
 use Rattle.meta_log.specs.Prelude.{active_half, width_of, IsValidSlot, IsActiveSlot, active_unit}
-use Rattle.store_image.specs.Prelude.{NoBadRow, IsDataUnit, IsMarked, IsExactAs, IsLeastInexact}
+use Rattle.row_format.specs.Prelude.{shared_key}
+use Rattle.store_image.specs.Prelude.{HasKey, NoBadRow, IsDataUnit, IsMarked, IsExactAs, IsLeastInexact}
 use Rattle.unit_allocator.specs.Prelude.{Space, is_idle, is_free}
 use Rattle.row_check.specs.Bad.{IsLeastBad}
 use Rattle.store_steps.specs.Prelude.{Found}
@@ -41,13 +43,26 @@ pub record IsFoundIn (contents : List ℕ) (f : Found) : Type 0 where
   pub active : IsActiveSlot contents f.sup
   pub replay : IsReplay (active_half contents f.sup) f.sup.first f.rows f.tail f.number
 
--- the numbers leave room for those to come, which stay below 2^62
-abbrev pub HasLowNumbers : Found → Type 0
-HasLowNumbers f = (f.sup.epoch < 2 ^ 61) × (f.number < 2 ^ 61)
+-- a shared blob of this number has a row
+abbrev pub HasBlob : Rows → ℕ → Type 0
+HasBlob rows sbid = (sbid < 2 ^ 64) × HasKey rows (shared_key sbid)
 
--- the first of the epoch and the next record's number that leaves none
+-- it is the greatest number of a shared blob
+pub record IsLastBlob (rows : Rows) (sbid : ℕ) : Type 0 where
+  pub has : HasBlob rows sbid
+  pub last : (other : ℕ) → HasBlob rows other → other ≤ sbid
+
+-- the numbers leave room for those to come, which stay below 2^62
+pub record HasLowNumbers (f : Found) : Type 0 where
+  pub epoch : f.sup.epoch < 2 ^ 61
+  pub number : f.number < 2 ^ 61
+  pub blobs : (sbid : ℕ) → HasBlob f.rows sbid → sbid < 2 ^ 61
+
+-- the first of the epoch, the next record's number and the greatest number of a shared blob that leaves none
 abbrev pub IsWornOut : Found → ℕ → Type 0
-IsWornOut f value = ((2 ^ 61 ≤ f.sup.epoch) × (value ≡ f.sup.epoch)) ⊎ ((f.sup.epoch < 2 ^ 61) × (2 ^ 61 ≤ f.number) × (value ≡ f.number))
+IsWornOut f value =
+    ((2 ^ 61 ≤ f.sup.epoch) × (value ≡ f.sup.epoch)) ⊎ ((f.sup.epoch < 2 ^ 61) × (2 ^ 61 ≤ f.number) × (value ≡ f.number))
+    ⊎ ((f.sup.epoch < 2 ^ 61) × (f.number < 2 ^ 61) × (2 ^ 61 ≤ value) × IsLastBlob f.rows value)
 
 -- the idle data units are exactly those whose bits are 0
 abbrev pub AreUnmarkedIdle : Found → Space → Type 0

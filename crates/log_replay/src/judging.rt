@@ -1,13 +1,14 @@
 //! Whether a kernel can be opened on the store that was found: its rows, its bitmap, its numbers, and the units that are free.
-ghost use Rattle.std.specs.Prelude.{◌≡◌, ℕ, not, OnOk, IfOk, IfErr, MatchOption};
+ghost use Rattle.std.specs.Prelude.{◌≡◌, ◌<◌, ◌^◌, ℕ, Some, not, OnOk, IfOk, IfErr, MatchOption};
 ghost use Rattle.std.specs.FinSet as set;
 ghost use Rattle.meta_log.specs.Prelude.{IsSuper};
-ghost use Rattle.store_image.specs.Prelude.{IsDataUnit};
+ghost use Rattle.row_format.specs.Prelude.{shared_key};
+ghost use Rattle.store_image.specs.Prelude.{IsDataUnit, NoBadRow};
 ghost use Rattle.bitmap_freelist.specs.Bitmap.{AreMarked};
 ghost use Rattle.unit_allocator.specs.Prelude.{is_free, holds_of};
 ghost use Rattle.plan_rows.specs.Prelude.{IsGood};
 ghost use Rattle.run_facts.specs.Prelude.{IsSpaceOf};
-ghost use Rattle.log_replay.specs.Opening.{HasLowNumbers, IsWornOut, IsMountRefused};
+ghost use Rattle.log_replay.specs.Opening.{HasBlob, IsLastBlob, HasLowNumbers, IsWornOut, IsMountRefused};
 ghost use Rattle.log_replay.specs.FoundOn.{IsJudged, as_found};
 
 use crate::opening::MountFail;
@@ -16,10 +17,15 @@ use meta_log::Super;
 use row_check::{find_bad_row, marked_units};
 use std::alloc::{AllocError, Global};
 use unit_allocator::Allocator;
-use unit_fields::{UnitNo, UnitSet};
+use unit_fields::{Fields, UnitNo, UnitSet};
 
 /// A number that is as high as this leaves too few above it.
 const HIGH: u64 = 1 << 61;
+
+/// The first byte of the keys of shared blobs, and the first one behind them.
+const FIRST_BLOB: &[u8] = b"X";
+
+const BLOBS_END: &[u8] = b"Y";
 
 /// The units that the bitmap marks, where no row is bad and each owned unit is marked and has one owner.
 fn units_of_rows(alloc: Global, found: &FoundStore) -> Result<UnitSet, MountFail>
@@ -42,8 +48,31 @@ fn units_of_rows(alloc: Global, found: &FoundStore) -> Result<UnitSet, MountFail
     }
 }
 
+/// The number of the shared blob whose row has this key.
+fn sbid_in(key: &[u8]) -> Option<u64>
+    ensures { (sbid : ℕ) → sbid < 2 ^ 64 → key.now ≡ shared_key sbid → result ≡ Some sbid }
+{
+    let mut fields = Fields::new(key);
+    fields.u8()?;
+    fields.u64_be()
+}
+
+/// The greatest number of a shared blob. It takes one look-up, since numbers in keys are big-endian.
+fn last_blob(found: &FoundStore) -> Option<u64>
+    requires { NoBadRow found.now.sup found.now.log.rows.rows }
+    ensures { MatchOption result ((sbid : ℕ) → ¬ HasBlob found.now.log.rows.rows sbid) (IsLastBlob found.now.log.rows.rows) }
+{
+    let (key, _) = found
+        .log
+        .rows
+        .range(FIRST_BLOB, Some(BLOBS_END))
+        .next_back()?;
+    sbid_in(key.as_slice())
+}
+
 /// The number for which the store takes no more work, if there is one.
 fn worn_out(found: &FoundStore) -> Option<u64>
+    requires { NoBadRow found.now.sup found.now.log.rows.rows }
     ensures { MatchOption result (HasLowNumbers (as_found found.now)) (IsWornOut (as_found found.now)) }
 {
     if found.sup.epoch >= HIGH {
@@ -52,7 +81,10 @@ fn worn_out(found: &FoundStore) -> Option<u64>
     if found.log.number >= HIGH {
         return Some(found.log.number);
     }
-    None
+    match last_blob(found) {
+        Some(sbid) if sbid >= HIGH => Some(sbid),
+        _ => None,
+    }
 }
 
 /// The data units, of which these are marked and all others free. None is held.

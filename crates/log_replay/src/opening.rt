@@ -26,7 +26,8 @@ pub enum MountFail {
     /// The least unit that has an owner and whose bit is 0, or that has two owners. No row is bad.
     #[error("the bitmap doesn't say who owns unit {unit}")]
     NotExact { unit: u32 },
-    /// The epoch or the number of the next record is 2^61 or more, so that numbers would run out.
+    /// The epoch, or else the number of the next record, or else the greatest number of a shared blob is 2^61 or more, so that numbers
+    /// would run out.
     #[error("the store has reached the number {value}")]
     WornOut { value: u64 },
     /// A call of the device failed, and it has counted that.

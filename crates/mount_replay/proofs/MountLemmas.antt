@@ -166,9 +166,9 @@ module _ (s : FoundStore) (d : Disk) (sound : IsSound d) (found : IsFoundOn d s)
   openable space units same judged = record {
     limits = found.limits;
     units_are = same;
-    number = omega (arith, judged.numbers.1);
+    number = omega (arith, judged.numbers.number);
     tail = found.tail;
-    epoch = omega (arith, judged.numbers.0);
+    epoch = omega (arith, judged.numbers.epoch);
     within = found.within;
     spelled = found.fit;
     stale = other.apart;
@@ -191,7 +191,7 @@ module _ (s : FoundStore) (d : Disk) (sound : IsSound d) (found : IsFoundOn d s)
       record {
         openable = openable space d.units found.units_are judged;
         unmarked = judged.unmarked;
-        numbers = judged.numbers;
+        numbers = record { epoch = judged.numbers.epoch; number = judged.numbers.number; blobs = judged.numbers.blobs };
         found = about_both d (λ contents. IsFoundIn contents (as_found s) × (found.half ≡ active_half contents s.sup))
             (AreZeroOutside (other_unit s.sup) s.sup.half runs) (λ contents. IsFoundIn contents (with_stale s runs) × IsStaleIn contents (with_stale s runs))
             (λ contents here zeroed. (found_too s runs contents here.0, zeroed)) found.about other.about;

@@ -1,5 +1,5 @@
 -- What planning a transaction asks for over rows, before any old bytes were read.
-use Rattle.std.specs.Prelude.{◌≡◌, ℕ, List, Option, Some}
+use Rattle.std.specs.Prelude.{◌≡◌, ℕ, List, [], Option, Some}
 use Rattle.std.specs.Option.{option_map}
 use Rattle.std.specs.FinMap as finite
 use Rattle.object_model.specs.Prelude.{Change}
@@ -24,13 +24,14 @@ PlacesStand w rows layouts on = (o : List ℕ) (page : ℕ) (place : Place) → 
     → StandsOn w rows place (on place)
 
 -- The collection as the rows say it: whether it is there, the layouts of its objects, and their values; and on which unit each place is. Nothing
--- is taken yet.
+-- is taken yet, and no slot left.
 pub record Begins (w : Width) (rows : Rows) (c : List ℕ) (layouts : List ℕ → Option Layout) (d : CollDraft) : Type 0 where
   pub there : d.there ≡ finite.contains_key rows (coll_key c)
   pub has : (o : List ℕ) → IsName o → HasLayout w rows c o (layouts o)
   pub drafts : (o : List ℕ) → IsName o → d.layout o ≡ option_map draft_of (layouts o)
   pub values : (o : List ℕ) (k : ValueKey) → IsName o → IsValueKey k → d.value o k ≡ finite.get rows (value_key c o k)
   pub none_taken : d.taken ≡ 0
+  pub none_left : d.unshared ≡ []
   pub stand : PlacesStand w rows layouts d.on
 
 -- A transaction of which each operation is taken asks for so many free units, as many as its operations take one after the other, and for the old

@@ -1,8 +1,10 @@
 -- A collection while a transaction on it is planned: what the operations so far make of it, without a look at rows or at free units.
 use Rattle.std.specs.Prelude.{◌≡◌, ℕ, ◌+◌, Bool, true, false, nat_lt, List, [], ◌∷◌, ◌++◌, length, Option, Some, None, is_some, if◌then◌else◌}
-use Rattle.std.specs.List.{AllByRecursion}
+use Rattle.std.specs.List.{AllByRecursion, flat_map}
 use Rattle.std.specs.Option.{option_map_or}
+use Rattle.std.specs.Ordering.{nat_cmp}
 use Rattle.std.specs.FinMap as finite
+use Rattle.std.specs.FinMap.Entries.{where_key}
 use Rattle.object_model.specs.declared.op.Op.{Op}
 use Rattle.object_model.specs.declared.op.Op.TheVariants.{MkColl, RmColl, Touch, Write, Zero, Truncate, Remove, SetAttr, RmAttr, Clone, CloneRange, OmapSet, OmapRm, OmapRmRange, OmapHeader}
 use Rattle.object_model.specs.declared.op.Refusal.{Refusal}
@@ -14,9 +16,10 @@ use Rattle.row_format.specs.Prelude.{Place}
 use Rattle.store_image.specs.Prelude.{PageUnit}
 use Rattle.plan_drafts.specs.declared.draft.Draft.{Draft}
 use Rattle.plan_rows.specs.declared.plan.ReadUnit.{ReadUnit}
+use Rattle.plan_rows.specs.declared.plan.SlotNo.{SlotNo}
 pub use Rattle.plan_rows.specs.Plans.{IsKnownOp, object_of, HasNames}
 pub use Rattle.plan_rows.specs.Asks.{IsOnColl}
-use Rattle.plan_drafts.specs.Edits.{Edit, edit_of, pages_taking, places_read, drafted, Held, writes_of, with_writes}
+use Rattle.plan_drafts.specs.Edits.{Edit, edit_of, is_touched, pages_taking, places_read, slots_released, drafted, Held, writes_of, with_writes}
 use Rattle.plan_rows.specs.Values.{ValueKey, value_after}
 
 -- ---- operations
@@ -68,15 +71,21 @@ edit_on (Zero o off len) x = Some (edit_of (Zero o off len) (or_new x).size)
 edit_on (Truncate o to) (Some x) = Some (edit_of (Truncate o to) x.size)
 edit_on op x = None
 
+-- the pages that leave their places under it, with these: all where the object goes, else those that the edit touches
+abbrev pub pages_left : Op → Option Draft → List (ℕ × Place)
+pages_left (Remove o) x = finite.entries (or_new x).kept
+pages_left op x = option_map_or (λ e. where_key nat_cmp (is_touched e) (finite.entries (or_new x).kept)) (edit_on op x) []
+
 -- ---- the collection
 
--- Whether it is there; its objects, each missing or so long and with its pages there; their values; how many units were taken; and on which
--- unit each place is, which no operation changes.
+-- Whether it is there; its objects, each missing or so long and with its pages there; their values; how many units were taken; the slots that
+-- pages left, one for each page; and on which unit each place is, which no operation changes.
 pub record CollDraft : Type 0 where
   pub there : Bool
   pub layout : List ℕ → Option Draft
   pub value : List ℕ → ValueKey → Option (List ℕ)
   pub taken : ℕ
+  pub unshared : List SlotNo
   pub on : Place → PageUnit
 
 -- ---- what one operation makes of it
@@ -104,6 +113,10 @@ places_on op d = option_map_or (λ e. places_read d.on e (or_new (object_before 
 abbrev pub writes_on : Op → List ReadUnit → Held → CollDraft → List (ℕ × List ℕ)
 writes_on op read held d = option_map_or (λ e. writes_of d.on e read held d.taken (or_new (object_before op d))) (edit_on op (object_before op d)) []
 
+-- the slots that pages leave
+abbrev pub slots_on : Op → CollDraft → List SlotNo
+slots_on op d = flat_map (λ p. slots_released p.1) (pages_left op (object_before op d))
+
 abbrev pub there_after : Op → Bool → Bool
 there_after MkColl there = true
 there_after RmColl there = false
@@ -120,6 +133,7 @@ with_op op d = record {
   layout = at_name (object_of op) (draft_after op d) d.layout;
   value = at_name (object_of op) (values_on op d) d.value;
   taken = d.taken + units_on op d;
+  unshared = d.unshared ++ slots_on op d;
   on = d.on;
 }
 

@@ -12,6 +12,7 @@ use Rattle.plan_drafts.specs.declared.draft.Draft.{Draft}
 use Rattle.plan_drafts.specs.declared.fate.Fate.{Fate}
 use Rattle.plan_drafts.specs.declared.fate.Fate.TheVariants.{Stays, Hole, Changed, Takes}
 use Rattle.plan_rows.specs.declared.plan.ReadUnit.{ReadUnit}
+use Rattle.plan_rows.specs.declared.plan.SlotNo.{SlotNo}
 pub use Rattle.plan_rows.specs.Edits.{covers_whole, pages_touched, page_after, Edit, end_of, grown, edit_of, is_cleared, page_unit, bytes_read, old_bytes_in, bytes_after, IsInLimits}
 
 -- ---- pages
@@ -92,10 +93,15 @@ place_read on fate kept = if needs_old fate then option_map on kept else None
 abbrev pub places_read : (Place → PageUnit) → Edit → Draft → List PageUnit
 places_read on e d = flat_map (λ page. option_to_list (place_read on (fate_of e d page) (finite.get d.kept page))) (pages_put e d)
 
--- the units that are released where a page leaves its place: that of the object's own on which it stood
+-- the units of an object's own that are released where a page leaves its place
 abbrev pub units_released : Place → List ℕ
 units_released (own unit csum) = unit ∷ []
 units_released (slot sbid index) = []
+
+-- and the slots that one page less names then
+abbrev pub slots_released : Place → List SlotNo
+slots_released (own unit csum) = []
+slots_released (slot sbid index) = record { sbid = sbid; index = index } ∷ []
 
 -- pages put by takings from this number on, one each
 abbrev pub with_takings : ℕ → List ℕ → NumberMap ℕ → NumberMap ℕ

@@ -11,7 +11,7 @@ use Rattle.meta_rows.specs.Prelude.{Rows, rows_after}
 use Rattle.meta_rows.specs.declared.row_op.RowOp.{RowOp}
 use Rattle.unit_fields.specs.Prelude.{IsName, IsCollName, Ascends}
 use Rattle.unit_fields.specs.declared.width.Width.{Width}
-use Rattle.row_format.specs.Prelude.{coll_key, Place, own}
+use Rattle.row_format.specs.Prelude.{coll_key, shared_key, Place, own}
 use Rattle.blob_map.specs.Prelude.{with_pages}
 use Rattle.unit_allocator.specs.Prelude.{Space, free_units}
 use Rattle.plan_rows.specs.declared.plan.Plan.{Plan}
@@ -24,6 +24,7 @@ use Rattle.plan_drafts.specs.declared.draft.Draft.{Draft}
 use Rattle.plan_drafts.specs.Edits.{pages_touched, Held}
 use Rattle.plan_drafts.specs.Layouts.{Layout, or_empty, IsKeyOf, GetsLayout, TurnsBits}
 use Rattle.plan_rows.specs.Values.{ValueKey, value_key, IsValueKey, IsKeyOfValue}
+use Rattle.plan_rows.specs.Blobs.{indexes_of, blob_after, IsKeyOfSlot, IsFreed}
 
 -- ---- how many units
 
@@ -58,14 +59,20 @@ laid_at units held d o = option_map (laid units held) (d.layout o)
 abbrev pub IsKeyOfColl : List ℕ → List ℕ → Type 0
 IsKeyOfColl c key = (key ≡ coll_key c) ⊎ ((o : List ℕ) × IsName o × (IsKeyOf c o key ⊎ IsKeyOfValue c o key))
 
--- The rows after say what became of the collection: whether it is there, the layout and the values of each object; and each row that isn't its own
--- is as it was.
+-- or that of a blob whose slots pages left
+abbrev pub IsKeyOfDraft : List ℕ → CollDraft → List ℕ → Type 0
+IsKeyOfDraft c d key = IsKeyOfColl c key ⊎ IsKeyOfSlot d.unshared key
+
+-- The rows after say what became of the collection: whether it is there, the layout and the values of each object, and the slots of blobs that
+-- pages left; and each other row is as it was.
 pub record GetsDraft (w : Width) (rows after : Rows) (c : List ℕ) (layouts : List ℕ → Option Layout) (units : List ℕ) (held : Held) (d : CollDraft)
     : Type 0 where
   pub coll : finite.get after (coll_key c) ≡ (if d.there then Some [] else None)
   pub objects : (o : List ℕ) → IsName o → GetsLayout w rows after c o (layouts o) (laid_at units held d o)
   pub values : (o : List ℕ) (k : ValueKey) → IsName o → IsValueKey k → finite.get after (value_key c o k) ≡ d.value o k
-  pub others : (key : List ℕ) → IsKeyOfColl c key ⊎ (finite.get after key ≡ finite.get rows key)
+  pub blobs : (sbid : ℕ) → sbid < 2 ^ 64
+      → finite.get after (shared_key sbid) ≡ blob_after w (finite.get rows (shared_key sbid)) (indexes_of sbid d.unshared)
+  pub others : (key : List ℕ) → IsKeyOfDraft c d key ⊎ (finite.get after key ≡ finite.get rows key)
 
 -- ---- units
 
@@ -107,7 +114,7 @@ pub record MakesDraft (w : Width) (rows : Rows) (c : List ℕ) (layouts : List �
   pub ascend : Ascends takings
   pub are_standing : (taking : ℕ) → Contains takings taking ↔ Stands d taking
   pub fresh : plan.fresh ≡ filled units held takings
-  pub are_left : (unit : ℕ) → Contains plan.released unit ↔ Leaves layouts d unit
+  pub are_left : (unit : ℕ) → Contains plan.released unit ↔ (Leaves layouts d unit ⊎ IsFreed w rows d.unshared unit)
   pub left_ascend : Ascends plan.released
   pub turns : TurnsBits (fresh_units plan) plan.released flips
 

@@ -8,29 +8,28 @@ use Rattle.std.proofs.lemmas.Bool.{cases_Bool, ltb-true, leb-true}
 use Rattle.std.proofs.lemmas.Bool.Decides.{nat_tests}
 use Rattle.meta_rows.specs.Prelude.{Rows}
 use Rattle.meta_log.specs.declared.slot.Super.{Super}
-use Rattle.meta_log.specs.Prelude.{width_of, data_unit}
+use Rattle.meta_log.specs.Prelude.{width_of}
 use Rattle.unit_fields.specs.Prelude.{IsName, IsCollName}
 use Rattle.unit_fields.specs.declared.width.Width.{Width}
-use Rattle.row_format.specs.Prelude.{coll_key, onode_key, Extent, FitsExtent, Body, private, shared, BeginsAt, ExtentsAscend, Place, place_in, place_of, page_count, page_end, shard, row_value}
+use Rattle.row_format.specs.Prelude.{coll_key, onode_key, Extent, FitsExtent, BeginsAt, ExtentsAscend, Place, place_in, place_of, page_count, page_end, shard, row_value}
 use Rattle.row_format.proofs.Prelude.{same_row}
-use Rattle.store_image.specs.Prelude.{HasKey, HasOnode, HasShard, IsPageAt, pages_of, IsOnData, IsShardInPlace}
-use Rattle.blob_map.specs.Prelude.{PageMap, IsBodyWithin, extents_of}
+use Rattle.store_image.specs.Prelude.{HasKey, HasOnode, HasShard, IsPageAt, pages_of, IsOnData, HasSlots, IsShardInPlace}
+use Rattle.blob_map.specs.Prelude.{PageMap, extents_of}
 use Rattle.blob_map.proofs.Forms.{extents_places, extents_ascend}
 use Rattle.extent_shards.specs.Prelude.{shard_bytes, shards_of, shard_limit, first_of, shard_at, joined_extents}
 use Rattle.extent_shards.proofs.Joins.{shards_back}
 use Rattle.extent_shards.proofs.Openings.{all_behind, ascend_behind, HasExtent, all_full, IsOneOf, each_is, part_all, part_ascends, at_is_one, one_is_at, earlier_ends, of_map_rise}
 use Rattle.plan_drafts.specs.Prelude.{AreCut}
 use Rattle.plan_proofs.proofs.Lengths.{has_page}
-use Rattle.plan_proofs.proofs.NoSlots.{IsOwn, wants_none}
 use Rattle.object_rows.proofs.Shards.{found_left, found_right}
 
 -- ---- pages of extents
 
 -- whether an extent has the page
-abbrev has_it : Extent → ℕ → Bool
+abbrev pub has_it : Extent → ℕ → Bool
 has_it e page = nat_le e.first page && nat_lt page (page_end e)
 
-abbrev either_place : Extent → List Extent → ℕ → Bool → Option Place
+abbrev pub either_place : Extent → List Extent → ℕ → Bool → Option Place
 either_place e es page b = cond b (Some (place_in e.body (page - e.first))) (place_of es page)
 
 both_first : (a b : Bool) → (a && b) ≡ true → a ≡ true
@@ -52,11 +51,11 @@ lt_true : (a b : ℕ) → a < b → nat_lt a b ≡ true
 lt_true a b lt = grind (arith, nat_tests)
 
 -- the first page and the last
-has_first : (e : Extent) → 0 < page_count e.body → has_it e e.first ≡ true
+pub has_first : (e : Extent) → 0 < page_count e.body → has_it e e.first ≡ true
 has_first e some = both_true (nat_le e.first e.first) (nat_lt e.first (page_end e)) (le_true e.first e.first (omega arith))
     (lt_true e.first (page_end e) (omega (arith, some)))
 
-has_last : (e : Extent) → 0 < page_count e.body → has_it e (page_end e - 1) ≡ true
+pub has_last : (e : Extent) → 0 < page_count e.body → has_it e (page_end e - 1) ≡ true
 has_last e some = both_true (nat_le e.first (page_end e - 1)) (nat_lt (page_end e - 1) (page_end e)) (le_true e.first (page_end e - 1) (omega (arith, some)))
     (lt_true (page_end e - 1) (page_end e) (omega (arith, some)))
 
@@ -86,34 +85,19 @@ some_page w (e ∷ es) page begins fit =
     (place_in e.body (page - e.first), ap (either_place e es page) (subst (λ n. has_it e n ≡ true) begins (has_first e (has_page w e.body fit.0.body))))
 
 -- behind some page
-page_from : (n : ℕ) (es : List Extent) (page : ℕ) (place : Place) → AllByRecursion (λ e. n ≤ e.first) es → place_of es page ≡ Some place → n ≤ page
+pub page_from : (n : ℕ) (es : List Extent) (page : ℕ) (place : Place) → AllByRecursion (λ e. n ≤ e.first) es → place_of es page ≡ Some place → n ≤ page
 page_from n [] page place from is = absurd cc
 page_from n (e ∷ es) page place from is = elim (cases_Bool (has_it e page)) [
   | inl here ↦ omega (arith, from.0, leb-true e.first page (both_first (nat_le e.first page) (nat_lt page (page_end e)) here))
   | inr not ↦ page_from n es page place from.1 (sym (ap (either_place e es page) not) ∙ is)
 ]
 
--- where each of their pages stands on a unit of the object's own, all of them stand on data units by their units alone
-on_data_body : (s : Super) (body : Body) (i : ℕ) → IsOwn (place_in body i) → IsBodyWithin (data_unit s) s.units body → IsOnData s body
-on_data_body s (private unit csums) i its within = within
-on_data_body s (shared sbid first count) i its within = absurd its
-
-before_it : (e : Extent) (page : ℕ) → page_end e ≤ page → has_it e page ≡ false
+-- an extent has no page behind its end
+pub before_it : (e : Extent) (page : ℕ) → page_end e ≤ page → has_it e page ≡ false
 before_it e page le = elim (cases_Bool (has_it e page)) [
   | inr not ↦ not
   | inl here ↦ absurd (omega (arith, le, ltb-true page (page_end e) (both_second (nat_le e.first page) (nat_lt page (page_end e)) here)))
 ]
-
-pub own_on_data : (s : Super) (es : List Extent) → ExtentsAscend es → AllByRecursion (FitsExtent (width_of s)) es
-    → ((page : ℕ) (place : Place) → place_of es page ≡ Some place → IsOwn place)
-    → AllByRecursion (λ e. IsBodyWithin (data_unit s) s.units e.body) es → AllByRecursion (λ e. IsOnData s e.body) es
-own_on_data s [] ascend fit its within = tt
-own_on_data s (e ∷ es) ascend fit its within = (
-  on_data_body s e.body (e.first - e.first)
-      (its e.first (place_in e.body (e.first - e.first)) (ap (either_place e es e.first) (has_first e (has_page (width_of s) e.body fit.0.body)))) within.0,
-  own_on_data s es ascend.1 fit.1 (λ page place is.
-      its page place (ap (either_place e es page) (before_it e page (page_from (page_end e) es page place ascend.0 is)) ∙ is)) within.1,
-)
 
 none_before : (xs ys : List Extent) (page : ℕ) (place : Place) → ExtentsAscend (xs ++ ys) → place_of ys page ≡ Some place → place_of xs page ≡ None
 none_before [] ys page place ascend is = refl
@@ -230,21 +214,24 @@ module _ (s : Super) (after : Rows) (c o : List ℕ) (pages : PageMap) (coll : I
 
   -- ---- in their places
 
+  pub cut_ascend : (page : ℕ) (es : List Extent) → HasShard (width_of s) after c o page es → ExtentsAscend es
+  cut_ascend page es has = part_ascends shards ascend_all es (at_is_one shards page es (own_shard page es has)).0
+
   pub new_in_place : HasKey after (coll_key c) → HasKey after (onode_key c o)
       → ((size : ℕ) → HasOnode after c o size → AllByRecursion (λ e. page_end e ≤ pages_of size) extents)
       → AllByRecursion (λ e. IsOnData s e.body) extents → (page : ℕ) (es : List Extent) → HasShard (width_of s) after c o page es
-      → IsShardInPlace s after c o page es
-  new_in_place coll_there onode_there within on_data page es has =
+      → AllByRecursion (λ e. HasSlots (width_of s) after c e.body) es → IsShardInPlace s after c o page es
+  new_in_place coll_there onode_there within on_data page es has slots =
       let one = at_is_one shards page es (own_shard page es has) in
       record {
         has_collection = coll_there;
         has_onode = onode_there;
-        ascend = part_ascends shards ascend_all es one.0;
+        ascend = cut_ascend page es has;
         behind = λ earlier fs below h.
             let other = at_is_one shards earlier fs (own_shard earlier fs h) in
             subst (λ n. AllByRecursion (λ e. page_end e ≤ n) fs) one.1
             (earlier_ends shards (of_map_rise (width_of s) (Some shard_limit) pages) fs es other.0 one.0 (omega (arith, other.1, one.1, below)));
         within = λ size h. of_part (λ e. page_end e ≤ pages_of size) (within size h) es one.0;
         on_data = of_part (λ e. IsOnData s e.body) on_data es one.0;
-        slots = wants_none s after c es (of_part (λ e. IsOnData s e.body) on_data es one.0);
+        slots = slots;
       }

@@ -5,28 +5,31 @@ use Rattle.meta_rows.specs.Prelude.{Rows, rows_after}
 use Rattle.meta_rows.specs.declared.row_op.RowOp.{RowOp}
 use Rattle.meta_log.specs.declared.slot.Super.{Super}
 use Rattle.meta_log.specs.Prelude.{width_of}
+use Rattle.unit_fields.specs.declared.width.Width.{Width}
 use Rattle.store_image.specs.Prelude.{NoBadRow, Owner, page_of, Owns, IsDataUnit, IsOwned, IsMarked, IsLeaked, IsExactAs, HasSoleOwner}
 use Rattle.bitmap_freelist.specs.Bitmap.{Has, AreAlikeButBits, ExactlyOne}
-use Rattle.bitmap_freelist.proofs.Alike.{flips_alike, alike_owns}
+use Rattle.bitmap_freelist.proofs.Alike.{flips_alike, alike_counts, alike_owns}
 use Rattle.bitmap_freelist.proofs.GoodBitmaps.{turned_good}
 use Rattle.bitmap_freelist.proofs.Turning.{turn_their_units}
 use Rattle.row_facts.proofs.Bits.{bits_stay}
-use Rattle.plan_drafts.specs.Prelude.{Held, Layout, CollDraft, TurnsBits, Stands, Leaves}
+use Rattle.plan_drafts.specs.Prelude.{Held, Layout, CollDraft, TurnsBits, Stands, Leaves, IsFreed}
+use Rattle.plan_proofs.proofs.DraftCounts.{counts_after}
 use Rattle.plan_proofs.proofs.DraftOwners.{taking_owns, owned_before, owned_after, left_was, sole_after, gone}
-use Rattle.plan_proofs.proofs.DraftRows.{AreDrafted, bits_same, drafted_good}
-use Rattle.plan_proofs.proofs.NoSlots.{no_counts}
+use Rattle.plan_proofs.proofs.Drafted.{AreDrafted}
+use Rattle.plan_proofs.proofs.DraftRows.{bits_same, drafted_good}
 use Rattle.plan_rows.proofs.OnData.{owned_on_data}
 
--- the units on which pages stand that were put, and those that pages have left
-pub record AreTurned (layouts : List ℕ → Option Layout) (units : List ℕ) (y : CollDraft) (fresh released : List ℕ) : Type 0 where
+-- the units on which pages stand that were put, and those that pages or all pages of a slot have left
+pub record AreTurned (w : Width) (rows : Rows) (layouts : List ℕ → Option Layout) (units : List ℕ) (y : CollDraft) (fresh released : List ℕ) : Type 0 where
   pub taken : (v : ℕ) → Contains fresh v ↔ ((taking : ℕ) × Stands y taking × (v ≡ slice_index units taking))
-  pub left : (v : ℕ) → Contains released v ↔ Leaves layouts y v
+  pub left : (v : ℕ) → Contains released v ↔ (Leaves layouts y v ⊎ IsFreed w rows y.unshared v)
 
 module _ (s : Super) (rows after : Rows) (c : List ℕ) (layouts : List ℕ → Option Layout) (units : List ℕ) (held : Held) (y : CollDraft)
     (a : AreDrafted s rows after c layouts units held y)
     (free : (taking : ℕ) → Stands y taking → ¬ IsOwned (width_of s) rows (slice_index units taking))
     (apart : (t u : ℕ) → Stands y t → Stands y u → slice_index units t ≡ slice_index units u → t ≡ u)
-    (fresh released : List ℕ) (are : AreTurned layouts units y fresh released) (flips : List RowOp) (turns : TurnsBits fresh released flips) where
+    (fresh released : List ℕ) (are : AreTurned (width_of s) rows layouts units y fresh released) (flips : List RowOp)
+    (turns : TurnsBits fresh released flips) where
   abbrev pub last : Rows
   last = rows_after after flips
 
@@ -44,11 +47,8 @@ module _ (s : Super) (rows after : Rows) (c : List ℕ) (layouts : List ℕ → 
 
   -- ---- owners
 
-  pub last_was : (v : ℕ) → Contains released v → (o : List ℕ) × (page : ℕ) × Owns (width_of s) rows (page_of c o page) v
-  last_was v k = let l = (are.left v).0 k in (l.object, l.page, left_was s rows after c layouts units held y a free apart v l)
-
-  was_owned : (v : ℕ) → Contains released v → IsOwned (width_of s) rows v
-  was_owned v k = let w = last_was v k in (page_of c w.0 w.1, w.2)
+  pub last_was : (v : ℕ) → Contains released v → IsOwned (width_of s) rows v
+  last_was v k = left_was s rows after c layouts units held y a free apart v ((are.left v).0 k)
 
   pub last_owned : (v : ℕ) → IsOwned (width_of s) last v → Contains fresh v ⊎ IsOwned (width_of s) rows v
   last_owned v owned = elim (owned_before s rows after c layouts units held y a free apart v (of_last v owned)) [
@@ -62,11 +62,12 @@ module _ (s : Super) (rows after : Rows) (c : List ℕ) (layouts : List ℕ → 
     | inr l ↦ inr ((are.left v).1 l)
   ]
 
-  pub last_taken : (v : ℕ) → Contains fresh v → (o : List ℕ) × (page : ℕ) × Owns (width_of s) last (page_of c o page) v
+  pub last_taken : (v : ℕ) → Contains fresh v → IsOwned (width_of s) last v
   last_taken v k =
       let t = (are.taken v).0 k in
+      let owner = page_of c t.1.object t.1.page in
       let owns = taking_owns s rows after c layouts units held y a free apart t.0 t.1 in
-      (t.1.object, t.1.page, (same_owns (page_of c t.1.object t.1.page) v).0 (subst (Owns (width_of s) after (page_of c t.1.object t.1.page)) (sym t.2) owns))
+      (owner, (same_owns owner v).0 (subst (Owns (width_of s) after owner) (sym t.2) owns))
 
   pub last_gone : (v : ℕ) → HasSoleOwner (width_of s) rows v → Contains released v → IsOwned (width_of s) last v → ⊥
   last_gone v sole k owned = gone s rows after c layouts units held y a free apart v sole ((are.left v).0 k) (of_last v owned)
@@ -85,7 +86,7 @@ module _ (s : Super) (rows after : Rows) (c : List ℕ) (layouts : List ℕ → 
   turned_data : (v : ℕ) → Has turns.units v → IsDataUnit s v
   turned_data v turned = elim ((turned_is v).0 turned) [
     | inl k ↦ let t = (are.taken v).0 k in subst (IsDataUnit s) (sym t.2) (a.on_data t.0 t.1)
-    | inr k ↦ owned_on_data s rows v a.good (was_owned v k)
+    | inr k ↦ owned_on_data s rows v a.good (last_was v k)
   ]
 
   pub last_good : NoBadRow s last
@@ -111,8 +112,8 @@ module _ (s : Super) (rows after : Rows) (c : List ℕ) (layouts : List ℕ → 
         )
       ]
       | inr turned ↦ elim ((turned_is v).0 turned.1) [
-        | inl k ↦ inl (let at = last_taken v k in (page_of c at.0 at.1, at.2))
-        | inr k ↦ absurd (turned.0 ((same_marks v).1 (exact.owned_marked v (was_owned v k))))
+        | inl k ↦ inl (last_taken v k)
+        | inr k ↦ absurd (turned.0 ((same_marks v).1 (exact.owned_marked v (last_was v k))))
       ]
     ]
 
@@ -136,5 +137,5 @@ module _ (s : Super) (rows after : Rows) (c : List ℕ) (layouts : List ℕ → 
       marked = last_marked;
       owned_marked = last_owned_marked;
       one_owner = λ v. last_sole v (exact.one_owner v);
-      counts = no_counts s last last_good;
+      counts = alike_counts (width_of s) after last alike (counts_after s rows after c layouts units held y a);
     }

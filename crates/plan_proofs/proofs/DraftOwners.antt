@@ -1,22 +1,25 @@
 -- Who owns which unit after the operations of a transaction.
-use Rattle.std.proofs.Common.{◌≡◌, ◌≢◌, ◌⊎◌, inl, inr, ℕ, Bool, true, false, List, Option, Some, None, refl, sym, ap, subst, ◌∙◌}
+use Rattle.std.proofs.Common.{◌≡◌, ◌≢◌, ◌⊎◌, inl, inr, ℕ, Bool, true, false, List, Option, Some, None, refl, sym, ap, subst, ◌∙◌, arith}
 use Rattle.std.specs.Prelude.{slice_index}
 use Rattle.std.specs.Option.{option_map}
 use Rattle.std.specs.Ordering.{nat_cmp}
 use Rattle.std.specs.FinMap as finite
+use Rattle.std.proofs.lemmas.Bool.{cases_lt}
 use Rattle.crc32c_csum.specs.Prelude.{crc32c}
 use Rattle.meta_rows.specs.Prelude.{Rows}
 use Rattle.meta_log.specs.declared.slot.Super.{Super}
 use Rattle.meta_log.specs.Prelude.{width_of}
 use Rattle.unit_fields.specs.Prelude.{IsName, IsCollName}
-use Rattle.row_format.specs.Prelude.{Place, own, shard}
-use Rattle.store_image.specs.Prelude.{IsPageAt, NoBadRow, Owner, page_of, slot_of, Owns, IsOwned, HasSoleOwner}
-use Rattle.store_image.proofs.Prelude.{equal_or_not, in_place, slot_still}
+use Rattle.row_format.specs.Prelude.{Place, own, Slot, shard}
+use Rattle.store_image.specs.Prelude.{IsPageAt, HasSlot, NoBadRow, Owner, page_of, slot_of, Owns, IsOwned, HasSoleOwner}
+use Rattle.store_image.proofs.Prelude.{equal_or_not, in_place}
 use Rattle.plan_drafts.specs.declared.draft.Draft.{Draft}
-use Rattle.plan_drafts.specs.Prelude.{Held, IsMapOf, Layout, HasLayout, or_empty, or_new, CollDraft, place_put, laid, Stands, Leaves}
-use Rattle.plan_proofs.proofs.DraftRows.{AreDrafted, now, OfDraft, of_draft, object_reached, has_now, other_page, blobs_same, drafted_good}
-use Rattle.plan_proofs.proofs.Laid.{StandsAt, by_taking, as_before, laid_put, laid_kept}
-use Rattle.plan_proofs.proofs.Reached.{IsObjectReached}
+use Rattle.plan_drafts.specs.Prelude.{Held, IsMapOf, Layout, HasLayout, or_empty, or_new, CollDraft, place_put, laid, Stands, Leaves, indexes_of, times_in, IsFreed}
+use Rattle.plan_proofs.proofs.Drafted.{AreDrafted}
+use Rattle.plan_proofs.proofs.BlobRows.{SlotWas, one_slot, slot_was, slot_kept}
+use Rattle.plan_proofs.proofs.DraftCounts.{still_page}
+use Rattle.plan_proofs.proofs.DraftRows.{now, OfDraft, of_draft, object_reached, map_was, map_now, other_page}
+use Rattle.plan_proofs.proofs.Laid.{StandsAt, by_taking, as_before, laid_put}
 
 -- the pages of a layout
 pub layout_pages : (s : Super) (rows : Rows) (c o : List ℕ) (x : Option Layout) → NoBadRow s rows → HasLayout (width_of s) rows c o x
@@ -42,11 +45,10 @@ module _ (s : Super) (rows after : Rows) (c : List ℕ) (layouts : List ℕ → 
   -- ---- owners after
 
   old_pages : (o : List ℕ) → IsName o → IsMapOf (width_of s) rows c o (or_empty (layouts o)).pages
-  old_pages o name = layout_pages s rows c o (layouts o) a.good (a.has o name)
+  old_pages o name = map_was s rows after c layouts units held y a o name
 
   new_pages : (o : List ℕ) → IsName o → IsMapOf (width_of s) after c o (or_empty (now s rows after c layouts units held y a o)).pages
-  new_pages o name = layout_pages s after c o (now s rows after c layouts units held y a o) (drafted_good s rows after c layouts units held y a)
-      (has_now s rows after c layouts units held y a o name)
+  new_pages o name = map_now s rows after c layouts units held y a o name
 
   -- what owns a unit is a page of a taking, or owned it before
   pub data OwnsBy (owner : Owner) (v : ℕ) : Type 0 where
@@ -61,6 +63,12 @@ module _ (s : Super) (rows after : Rows) (c : List ℕ) (layouts : List ℕ → 
 
   coll_of : (d u : List ℕ) (page : ℕ) (place : Place) (r : Rows) → IsPageAt (width_of s) r d u page place → IsCollName d
   coll_of d u page place r is = is.has_shard.fits.coll_name
+
+  -- a slot was at its unit, with a count that is more by the pages that left it
+  slot_before : (sbid index v : ℕ) (x : Slot) (has : HasSlot (width_of s) after sbid index v x)
+      → SlotWas s rows after a.good sbid has.has_blob.fits.number (indexes_of sbid y.unshared) (a.gets.blobs sbid has.has_blob.fits.number) index v x
+  slot_before sbid index v x has =
+      let low = has.has_blob.fits.number in slot_was s rows after a.good sbid low (indexes_of sbid y.unshared) (a.gets.blobs sbid low) index v x has
 
   pub owners : (owner : Owner) (v : ℕ) → Owns (width_of s) after owner v → OwnsBy owner v
   owners (page_of d u page) v owns = elim (equal_or_not d c) [
@@ -79,7 +87,8 @@ module _ (s : Super) (rows after : Rows) (c : List ℕ) (layouts : List ℕ → 
       mine : (d u : List ℕ) (page v csum : ℕ) → d ≡ c → IsName u → (of : OfDraft s rows after c layouts units held y a u page (own v csum)) → (place : Place)
           → place ≡ own v csum → StandsAt units held of.draft page place → OwnsBy (page_of d u page) v
       mine d u page v csum e name of _ same (by_taking taking put) =
-          takes u page taking of.draft name of.there put (ap (λ z. page_of z u page) e) (sym (same_unit (slice_index units taking) (crc32c (held taking)) v csum same))
+          takes u page taking of.draft name of.there put (ap (λ z. page_of z u page) e)
+          (sym (same_unit (slice_index units taking) (crc32c (held taking)) v csum same))
       mine d u page v csum e name of place same (as_before _ none kept) =
           let is : finite.get of.draft.kept page ≡ Some (own v csum) = kept ∙ ap Some same in
           let was : Owns (width_of s) rows (page_of c u page) v = (
@@ -92,8 +101,9 @@ module _ (s : Super) (rows after : Rows) (c : List ℕ) (layouts : List ℕ → 
 
       coll_same : (o : List ℕ) (p : ℕ) → page_of d u page ≡ page_of c o p → d ≡ c
       coll_same o p e = cc
-  owners (slot_of sbid index) v owns = elsewhere (λ o p e. absurd cc)
-      (owns.0, (slot_still (width_of s) after rows sbid index v owns.0 (sym (blobs_same s rows after c layouts units held y a sbid)) owns.1.0, owns.1.1))
+  owners (slot_of sbid index) v owns =
+      let was = slot_before sbid index v owns.0 owns.1.0 in
+      elsewhere (λ o p e. absurd cc) (was.was, (was.has_slot, omega (arith, was.count, owns.1.1)))
 
   -- ---- what is owned
 
@@ -119,11 +129,45 @@ module _ (s : Super) (rows after : Rows) (c : List ℕ) (layouts : List ℕ → 
   kept_or_none None = inr refl
   kept_or_none (Some p) = inl (p, refl)
 
+  -- its page left the unit, or all pages left its slot
+  abbrev pub IsLeft : ℕ → Type 0
+  IsLeft v = Leaves layouts y v ⊎ IsFreed (width_of s) rows y.unshared v
+
+  -- a page stands on its unit still, or has left it
+  page_stays : (u : List ℕ) (page v csum : ℕ) → IsPageAt (width_of s) rows c u page (own v csum) → IsOwned (width_of s) after v ⊎ Leaves layouts y v
+  page_stays u page v csum at =
+      let name = name_of c u page (own v csum) rows at in
+      let stood = (old_pages u name page (own v csum)).1 at in
+      elim (kept_or_none (finite.get (or_new (y.layout u)).kept page)) [
+        | inr none ↦ inr (record { object = u; named = name; page = page; csum = csum; stood = stood; left = none })
+        | inl there ↦
+            let same : Some there.0 ≡ Some (own v csum) = sym (kept_was u page there.0 name there.1) ∙ stood in
+            inl (page_of c u page, (csum, still_page s rows after c layouts units held y a u page (own v csum) name (there.1 ∙ same)))
+      ]
+    where
+      kept_was : (u : List ℕ) (page : ℕ) (place : Place) → IsName u → finite.get (or_new (y.layout u)).kept page ≡ Some place
+          → finite.get (or_empty (layouts u)).pages page ≡ Some place
+      kept_was u page place name is = by (y.layout u) refl is
+        where
+          by : (x : Option Draft) → y.layout u ≡ x → finite.get (or_new x).kept page ≡ Some place → finite.get (or_empty (layouts u)).pages page ≡ Some place
+          by None p kept = absurd (let t = sym (finite.get-empty nat_cmp page) ∙ kept in cc)
+          by (Some d) p kept = (object_reached s rows after c layouts units held y a u d name p).kept page place kept
+
+  -- a slot keeps a count, or all its pages have left it
+  slot_stays : (sbid index v : ℕ) → Owns (width_of s) rows (slot_of sbid index) v → IsOwned (width_of s) after v ⊎ IsFreed (width_of s) rows y.unshared v
+  slot_stays sbid index v (x, (has, some)) = elim (cases_lt (times_in (indexes_of sbid y.unshared) index) x.count) [
+    | inl lt ↦
+        let low = has.has_blob.fits.number in
+        let still = slot_kept s rows after a.good sbid low (indexes_of sbid y.unshared) (a.gets.blobs sbid low) index v x has lt in
+        inl (slot_of sbid index, (_, (still, omega (arith, lt))))
+    | inr ge ↦ inr (record { sbid = sbid; index = index; is = x; has_slot = has; counted = some; all_leave = ge })
+  ]
+
   -- one owned before is owned still, or is left
-  pub owned_after : (v : ℕ) → IsOwned (width_of s) rows v → IsOwned (width_of s) after v ⊎ Leaves layouts y v
+  pub owned_after : (v : ℕ) → IsOwned (width_of s) rows v → IsOwned (width_of s) after v ⊎ IsLeft v
   owned_after v owned = by owned.0 owned.1
     where
-      by : (owner : Owner) → Owns (width_of s) rows owner v → IsOwned (width_of s) after v ⊎ Leaves layouts y v
+      by : (owner : Owner) → Owns (width_of s) rows owner v → IsOwned (width_of s) after v ⊎ IsLeft v
       by (page_of d u page) owns = elim (equal_or_not d c) [
         | inr other ↦ inl (
           page_of d u page,
@@ -133,57 +177,23 @@ module _ (s : Super) (rows after : Rows) (c : List ℕ) (layouts : List ℕ → 
                 (coll_of d u page (own v owns.0) rows owns.1) other u page (own v owns.0)).1 owns.1,
           ),
         )
-        | inl e ↦
-            let at : IsPageAt (width_of s) rows c u page (own v owns.0) = subst (λ z. IsPageAt (width_of s) rows z u page (own v owns.0)) e owns.1 in
-            let name = name_of c u page (own v owns.0) rows at in
-            let stood = (old_pages u name page (own v owns.0)).1 at in
-            stays_or_left u page owns.0 name stood (y.layout u) refl
+        | inl e ↦ elim (page_stays u page v owns.0 (subst (λ z. IsPageAt (width_of s) rows z u page (own v owns.0)) e owns.1)) [
+          | inl still ↦ inl still
+          | inr left ↦ inr (inl left)
+        ]
       ]
-        where
-          stays_or_left : (u : List ℕ) (page csum : ℕ) → IsName u → finite.get (or_empty (layouts u)).pages page ≡ Some (own v csum) → (x : Option Draft)
-              → y.layout u ≡ x → IsOwned (width_of s) after v ⊎ Leaves layouts y v
-          stays_or_left u page csum name stood x p = elim (kept_or_none (finite.get (or_new x).kept page)) [
-            | inr none ↦ inr (record {
-              object = u;
-              named = name;
-              page = page;
-              csum = csum;
-              stood = stood;
-              left = ap (λ z. finite.get (or_new z).kept page) p ∙ none;
-            })
-            | inl there ↦ inl (still u page csum name stood x p there.0 there.1)
-          ]
-            where
-              still : (u : List ℕ) (page csum : ℕ) → IsName u → finite.get (or_empty (layouts u)).pages page ≡ Some (own v csum) → (x : Option Draft)
-                  → y.layout u ≡ x → (place : Place) → finite.get (or_new x).kept page ≡ Some place → IsOwned (width_of s) after v
-              still u page csum name stood None p place kept = absurd (let t = sym (finite.get-empty nat_cmp page) ∙ kept in cc)
-              still u page csum name stood (Some d) p place kept =
-                  let r = object_reached s rows after c layouts units held y a u d name p in
-                  let same : Some place ≡ Some (own v csum) = sym (r.kept page place kept) ∙ stood in
-                  let is : finite.get d.kept page ≡ Some (own v csum) = kept ∙ same in (
-                    page_of c u page,
-                    (
-                      csum,
-                      (new_pages u name page (own v csum)).0
-                          (ap (λ z. finite.get (or_empty (option_map (laid units held) z)).pages page) p
-                          ∙ laid_kept units held d page (own v csum) (put_none d r page place kept) is),
-                    ),
-                  )
-                where
-                  put_none : (d : Draft) → IsObjectReached (layouts u) y.taken d → (page : ℕ) (place : Place) → finite.get d.kept page ≡ Some place
-                      → finite.get d.puts page ≡ None
-                  put_none d r page place kept = elim (finite.get d.puts page) as (λ z. finite.get d.puts page ≡ z → z ≡ None) [
-                    | None ↦ λ p. refl
-                    | Some t ↦ λ p. absurd (r.apart page t place kept p)
-                  ] refl
-      by (slot_of sbid index) owns = inl (
-        slot_of sbid index,
-        (owns.0, (slot_still (width_of s) rows after sbid index v owns.0 (blobs_same s rows after c layouts units held y a sbid) owns.1.0, owns.1.1)),
-      )
+      by (slot_of sbid index) owns = elim (slot_stays sbid index v owns) [ inl still ↦ inl still | inr freed ↦ inr (inr freed) ]
 
-  -- a unit that is left was owned by a page of the collection
-  pub left_was : (v : ℕ) (l : Leaves layouts y v) → Owns (width_of s) rows (page_of c l.object l.page) v
-  left_was v l = (l.csum, (old_pages l.object l.named l.page (own v l.csum)).0 l.stood)
+  -- a unit that is left was owned, by a page of the collection or by a slot
+  page_was : (v : ℕ) (l : Leaves layouts y v) → Owns (width_of s) rows (page_of c l.object l.page) v
+  page_was v l = (l.csum, (old_pages l.object l.named l.page (own v l.csum)).0 l.stood)
+
+  slot_had : (v : ℕ) (f : IsFreed (width_of s) rows y.unshared v) → Owns (width_of s) rows (slot_of f.sbid f.index) v
+  slot_had v f = (f.is, (f.has_slot, f.counted))
+
+  pub left_was : (v : ℕ) → IsLeft v → IsOwned (width_of s) rows v
+  left_was v (inl l) = (page_of c l.object l.page, page_was v l)
+  left_was v (inr f) = (slot_of f.sbid f.index, slot_had v f)
 
   -- ---- one owner
 
@@ -208,7 +218,8 @@ module _ (s : Super) (rows after : Rows) (c : List ℕ) (layouts : List ℕ → 
       where
         by : OwnsBy p v → OwnsBy q v → p ≡ q
         by (takes o page taking d name there put is v_is) (takes u other t e named there_too put_too is_too v_too) =
-            let same : taking ≡ t = apart taking t (stands_of o page taking d name there put) (stands_of u other t e named there_too put_too) (sym v_is ∙ v_too) in
+            let same : taking ≡ t = apart taking t (stands_of o page taking d name there put) (stands_of u other t e named there_too put_too)
+            (sym v_is ∙ v_too) in
             let one = a.reached.once o u d e page other taking name named there there_too put (put_too ∙ ap Some (sym same)) in
             is ∙ (λ i. page_of c (one.0 i) (one.1 i)) ∙ sym is_too
         by (takes o page taking d name there put is v_is) (keeps u other csum e named there_too none kept is_too was) =
@@ -222,11 +233,11 @@ module _ (s : Super) (rows after : Rows) (c : List ℕ) (layouts : List ℕ → 
         by (elsewhere other_owner was_too) (keeps u other csum e named there_too none kept is_too was) = sole p q was_too was
         by (elsewhere other_owner was_too) (elsewhere another was) = sole p q was_too was
 
-    pub gone : (l : Leaves layouts y v) → IsOwned (width_of s) after v → ⊥
-    gone l owned = by (owners owned.0 v owned.1)
+    page_gone : (l : Leaves layouts y v) → IsOwned (width_of s) after v → ⊥
+    page_gone l owned = by (owners owned.0 v owned.1)
       where
         was : Owns (width_of s) rows (page_of c l.object l.page) v
-        was = left_was v l
+        was = page_was v l
 
         by : OwnsBy owned.0 v → ⊥
         by (takes o page taking d name there put is v_is) = unowned o page taking d name there put v_is (page_of c l.object l.page) was
@@ -237,3 +248,25 @@ module _ (s : Super) (rows after : Rows) (c : List ℕ) (layouts : List ℕ → 
             ap (λ z. finite.get (or_new (y.layout z)).kept page) (object_of_owner o l.object page l.page one)
             ∙ ap (finite.get (or_new (y.layout l.object)).kept) (page_of_owner o l.object page l.page one) ∙ l.left in
             let t = sym (ap (λ z. finite.get (or_new z).kept page) there ∙ kept) ∙ left in cc
+
+    -- a slot that all pages left has no count then
+    no_count : (f : IsFreed (width_of s) rows y.unshared v) → Owns (width_of s) after (slot_of f.sbid f.index) v → ⊥
+    no_count f (x, (has, some)) =
+        let was = slot_before f.sbid f.index v x has in
+        let same = one_slot (width_of s) rows f.sbid f.index v v was.was f.is was.has_slot f.has_slot in
+        omega (arith, some, was.count, ap (λ z. z.count) same, f.all_leave)
+
+    slot_gone : (f : IsFreed (width_of s) rows y.unshared v) → IsOwned (width_of s) after v → ⊥
+    slot_gone f owned = by (owners owned.0 v owned.1)
+      where
+        of_rows : Owns (width_of s) rows owned.0 v → ⊥
+        of_rows before = no_count f (subst (λ owner. Owns (width_of s) after owner v) (sole owned.0 (slot_of f.sbid f.index) before (slot_had v f)) owned.1)
+
+        by : OwnsBy owned.0 v → ⊥
+        by (takes o page taking d name there put is v_is) = unowned o page taking d name there put v_is (slot_of f.sbid f.index) (slot_had v f)
+        by (keeps o page csum d name there none kept is before) = of_rows before
+        by (elsewhere other before) = of_rows before
+
+    pub gone : IsLeft v → IsOwned (width_of s) after v → ⊥
+    gone (inl l) owned = page_gone l owned
+    gone (inr f) owned = slot_gone f owned

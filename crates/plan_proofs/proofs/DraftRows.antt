@@ -1,115 +1,40 @@
 -- The rows after the operations of a transaction: no row is bad, and each object has its layout.
-use Rattle.std.proofs.Common.{◌≡◌, ◌≢◌, ◌⊎◌, ◌↔◌, inl, inr, ℕ, ◌<◌, ◌≤◌, ◌^◌, Bool, true, false, cond, List, [], ◌∷◌, Option, Some, None, is_some, refl, sym, ap, subst, ◌∙◌, arith}
-use Rattle.std.specs.Prelude.{unwrap_or, slice_index, ◌||◌}
+use Rattle.std.proofs.Common.{◌≡◌, ◌≢◌, ◌⊎◌, ◌↔◌, inl, inr, ℕ, ◌<◌, ◌≤◌, ◌^◌, ◌-◌, Bool, true, false, cond, List, [], Option, Some, None, is_some, refl, sym, ap, subst, ◌∙◌, arith}
+use Rattle.std.specs.Prelude.{unwrap_or, ◌||◌}
 use Rattle.std.specs.Option.{option_map}
 use Rattle.std.specs.List.{AllByRecursion}
 use Rattle.std.specs.Ordering.{nat_cmp}
 use Rattle.std.specs.Int.{w64, to_le_bytes}
 use Rattle.std.specs.FinMap as finite
-use Rattle.crc32c_csum.specs.Prelude.{crc32c}
 use Rattle.meta_rows.specs.Prelude.{Rows}
 use Rattle.meta_log.specs.declared.slot.Super.{Super}
 use Rattle.meta_log.specs.Prelude.{width_of, data_unit}
 use Rattle.object_model.specs.Prelude.{object_limit}
 use Rattle.unit_fields.specs.Prelude.{IsName, IsCollName}
-use Rattle.row_format.specs.Prelude.{coll_key, onode_key, shard_key, attr_key, header_key, omap_key, shared_key, bitmap_key, Extent, FitsExtent, Place, Row, collection, onode, shard, omap_header, omap_pair, blob, bitmap, row_key, row_value, FitsRow}
+use Rattle.row_format.specs.Prelude.{coll_key, onode_key, shard_key, attr_key, header_key, omap_key, shared_key, bitmap_key, Extent, FitsExtent, ExtentsAscend, Place, own, slot, Slot, Row, collection, onode, shard, omap_header, omap_pair, blob, bitmap, row_key, row_value, FitsRow}
 use Rattle.row_format.specs.Row as format
-use Rattle.row_format.proofs.Prelude.{same_head, same_coll, same_onode, same_shard, same_place, coll_no_object, onode_no_shard, bitmap_no_coll, bitmap_no_object, same_row}
-use Rattle.store_image.specs.Prelude.{HasKey, HasRow, HasOnode, HasShard, IsPageAt, pages_of, IsShardInPlace, HasObject, IsInPlace, IsGoodRow, NoBadRow, IsDataUnit}
-use Rattle.store_image.proofs.Prelude.{equal_or_not, in_place}
-use Rattle.blob_map.specs.Prelude.{StandsWithin}
+use Rattle.row_format.proofs.Prelude.{same_row}
+use Rattle.store_image.specs.Prelude.{HasKey, HasRow, HasOnode, HasShard, IsPageAt, pages_of, PageUnit, HasSlot, StandsOn, IsNamedBy, HasSlots, IsShardInPlace, HasObject, IsInPlace, IsGoodRow, NoBadRow, PageName, AreNamers}
+use Rattle.store_image.proofs.Prelude.{equal_or_not, in_place, slot_still}
+use Rattle.store_image.proofs.Counting as counting
+use Rattle.store_image.proofs.PageUnits.{one_unit}
+use Rattle.blob_map.specs.Prelude.{FitsPlace, StandsWithin}
 use Rattle.extent_shards.specs.Prelude.{shard_bytes, shards_of, shard_limit, shard_at}
 use Rattle.plan_drafts.specs.declared.draft.Draft.{Draft}
-use Rattle.plan_drafts.specs.Prelude.{Held, Layout, HasLayout, or_empty, size_at, extents_at, AreCut, GetsShards, stay, cut, ValueKey, attribute, header, pair, value_key, IsValueKey, IsKeyOfValue, PlacesStand, CollDraft, laid, laid_at, IsKeyOfColl, GetsDraft, Stands}
-use Rattle.plan_proofs.proofs.AfterObject.{ends_within, some_page, has_shard, own_pages, new_in_place}
+use Rattle.plan_drafts.specs.Prelude.{Held, Layout, HasLayout, or_empty, or_new, size_at, extents_at, AreCut, GetsShards, stay, cut, ValueKey, attribute, header, pair, value_key, IsValueKey, CollDraft, laid, laid_at, indexes_of, times_in, blob_after, IsKeyOfSlot, IsKeyOfColl, Stands}
+use Rattle.plan_proofs.proofs.Difference.{less_apart}
+use Rattle.plan_proofs.proofs.DraftKeys.{coll_apart_of, onode_apart, shard_apart, value_apart, bits_apart, no_blob, value_no_blob}
+use Rattle.plan_proofs.proofs.Drafted.{AreThose, Named, AreDrafted}
+use Rattle.plan_proofs.proofs.AfterObject.{ends_within, some_page, has_shard, own_pages, cut_ascend, new_in_place}
+use Rattle.plan_proofs.proofs.BlobRows.{blob_placed, blob_row_good, slot_kept}
 use Rattle.object_rows.proofs.GoodPages.{CsumFits, IsGoodPage, good_page}
 use Rattle.plan_proofs.proofs.Laid.{laid_cases, by_taking, as_before, StandsAt}
-use Rattle.plan_proofs.proofs.NoSlots.{IsOwn, layout_own, wants_none}
+use Rattle.plan_proofs.proofs.Slots.{page_names, named_page, HasPlace, places_have, slot_inside, slot_fits, HasSome, left_named, left_or_none, page_slot, one_home}
 use Rattle.plan_proofs.proofs.Maps.{size_is, places_at, layout_fit, layout_on_data}
-use Rattle.plan_proofs.proofs.Reached.{IsObjectReached, IsReached}
+use Rattle.plan_proofs.proofs.Reached.{IsObjectReached}
 use Rattle.plan_proofs.proofs.ValuesWritten.{FitsValue}
 
--- ---- keys
-
--- the keys of values begin otherwise
-no_value : (c o : List ℕ) (kind : ℕ) (rest : List ℕ) → kind ≢ 0x41 → kind ≢ 0x4d → IsKeyOfValue c o (kind ∷ rest) → ⊥
-no_value c o kind rest a m its = by its.of its.is
-  where
-    by : (k : ValueKey) → kind ∷ rest ≡ value_key c o k → ⊥
-    by (attribute n) e = a (same_head _ _ _ _ e)
-    by header e = m (same_head _ _ _ _ e)
-    by (pair q) e = m (same_head _ _ _ _ e)
-
-coll_apart_of : (c d : List ℕ) → d ≢ c → IsKeyOfColl c (coll_key d) → ⊥
-coll_apart_of c d apart (inl e) = apart (same_coll d c e)
-coll_apart_of c d apart (inr (o, name, inl (inl e))) = coll_no_object d c o _ e
-coll_apart_of c d apart (inr (o, name, inl (inr p))) = coll_no_object d c o _ p.2
-coll_apart_of c d apart (inr (o, name, inr its)) = no_value c o 0x43 d (λ e. omega (arith, e)) (λ e. omega (arith, e)) its
-
--- keys of another collection are none of this one's
-module _ (c d : List ℕ) (coll : IsCollName c) (other : IsCollName d) (apart : d ≢ c) where
-  module _ (u : List ℕ) (named : IsName u) where
-    onode_apart : IsKeyOfColl c (onode_key d u) → ⊥
-    onode_apart (inl e) = omega (arith, same_head _ _ _ _ e)
-    onode_apart (inr (o, name, inl (inl e))) = apart (same_onode d u c o other named coll name e).0
-    onode_apart (inr (o, name, inl (inr p))) = onode_no_shard d u c o p.0 other named coll name p.2
-    onode_apart (inr (o, name, inr its)) = no_value c o 0x4f _ (λ e. omega (arith, e)) (λ e. omega (arith, e)) its
-
-    shard_apart : (page : ℕ) → page < 2 ^ 32 → IsKeyOfColl c (shard_key d u page) → ⊥
-    shard_apart page lt (inl e) = omega (arith, same_head _ _ _ _ e)
-    shard_apart page lt (inr (o, name, inl (inl e))) = onode_no_shard c o d u page coll name other named (sym e)
-    shard_apart page lt (inr (o, name, inl (inr p))) = apart (same_shard d u c o page p.0 other named coll name lt p.1 p.2).0
-    shard_apart page lt (inr (o, name, inr its)) = no_value c o 0x4f _ (λ e. omega (arith, e)) (λ e. omega (arith, e)) its
-
-    value_apart : (k : ValueKey) → IsKeyOfColl c (value_key d u k) → ⊥
-    value_apart (attribute n) (inl e) = omega (arith, same_head _ _ _ _ e)
-    value_apart header (inl e) = omega (arith, same_head _ _ _ _ e)
-    value_apart (pair n) (inl e) = omega (arith, same_head _ _ _ _ e)
-    value_apart (attribute n) (inr (o, name, inl (inl e))) = omega (arith, same_head _ _ _ _ e)
-    value_apart header (inr (o, name, inl (inl e))) = omega (arith, same_head _ _ _ _ e)
-    value_apart (pair n) (inr (o, name, inl (inl e))) = omega (arith, same_head _ _ _ _ e)
-    value_apart (attribute n) (inr (o, name, inl (inr p))) = omega (arith, same_head _ _ _ _ p.2)
-    value_apart header (inr (o, name, inl (inr p))) = omega (arith, same_head _ _ _ _ p.2)
-    value_apart (pair n) (inr (o, name, inl (inr p))) = omega (arith, same_head _ _ _ _ p.2)
-    value_apart k (inr (o, name, inr its)) = by k its.of its.is
-      where
-        by : (k l : ValueKey) → value_key d u k ≡ value_key c o l → ⊥
-        by (attribute n) (attribute m) e = apart (same_place 0x41 d u c o n m other named coll name e).0
-        by (attribute n) header e = omega (arith, same_head _ _ _ _ e)
-        by (attribute n) (pair m) e = omega (arith, same_head _ _ _ _ e)
-        by header (attribute m) e = omega (arith, same_head _ _ _ _ e)
-        by header header e = apart (same_place 0x4d d u c o _ _ other named coll name e).0
-        by header (pair m) e = apart (same_place 0x4d d u c o _ _ other named coll name e).0
-        by (pair n) (attribute m) e = omega (arith, same_head _ _ _ _ e)
-        by (pair n) header e = apart (same_place 0x4d d u c o _ _ other named coll name e).0
-        by (pair n) (pair m) e = apart (same_place 0x4d d u c o _ _ other named coll name e).0
-
-bits_apart : (c : List ℕ) (r : ℕ) → IsKeyOfColl c (bitmap_key r) → ⊥
-bits_apart c r (inl e) = bitmap_no_coll r c e
-bits_apart c r (inr (o, name, inl (inl e))) = bitmap_no_object r c o _ e
-bits_apart c r (inr (o, name, inl (inr p))) = bitmap_no_object r c o _ p.2
-bits_apart c r (inr (o, name, inr its)) = no_value c o 0x62 _ (λ e. omega (arith, e)) (λ e. omega (arith, e)) its
-
-blobs_apart : (c : List ℕ) (sbid : ℕ) → IsKeyOfColl c (shared_key sbid) → ⊥
-blobs_apart c sbid (inl e) = omega (arith, same_head _ _ _ _ e)
-blobs_apart c sbid (inr (o, name, inl (inl e))) = omega (arith, same_head _ _ _ _ e)
-blobs_apart c sbid (inr (o, name, inl (inr p))) = omega (arith, same_head _ _ _ _ p.2)
-blobs_apart c sbid (inr (o, name, inr its)) = no_value c o 0x58 _ (λ e. omega (arith, e)) (λ e. omega (arith, e)) its
-
 -- ---- the rows after
-
--- What the rows after stand on: no row was bad, places are on the units that the rows say, the draft was reached, and the rows after say it, with units for
--- those takings on whose units pages stand.
-pub record AreDrafted (s : Super) (rows after : Rows) (c : List ℕ) (layouts : List ℕ → Option Layout) (units : List ℕ) (held : Held) (y : CollDraft) : Type 0 where
-  pub good : NoBadRow s rows
-  pub units_most : s.units ≤ 2 ^ 32
-  pub coll : IsCollName c
-  pub has : (o : List ℕ) → IsName o → HasLayout (width_of s) rows c o (layouts o)
-  pub stand : PlacesStand (width_of s) rows layouts y.on
-  pub reached : IsReached layouts y
-  pub gets : GetsDraft (width_of s) rows after c layouts units held y
-  pub on_data : (taking : ℕ) → Stands y taking → IsDataUnit s (slice_index units taking)
-  pub sums : (taking : ℕ) → Stands y taking → crc32c (held taking) < 2 ^ 32
 
 module _ (s : Super) (rows after : Rows) (c : List ℕ) (layouts : List ℕ → Option Layout) (units : List ℕ) (held : Held) (y : CollDraft)
     (a : AreDrafted s rows after c layouts units held y) where
@@ -147,6 +72,20 @@ module _ (s : Super) (rows after : Rows) (c : List ℕ) (layouts : List ℕ → 
       by : (x : Option Draft) → y.layout o ≡ x → (or_empty (option_map (laid units held) x)).size ≤ object_limit
       by None p = omega arith
       by (Some d) p = (object_reached o d name p).most
+
+  -- an object that is missing had no pages
+  pub map_was : (o : List ℕ) → IsName o → (page : ℕ) (place : Place) → (finite.get (or_empty (layouts o)).pages page ≡ Some place) ↔ IsPageAt (width_of s) rows c o page place
+  map_was o name page place = by (layouts o) (a.has o name)
+    where
+      by : (z : Option Layout) → HasLayout (width_of s) rows c o z
+          → (finite.get (or_empty z).pages page ≡ Some place) ↔ IsPageAt (width_of s) rows c o page place
+      by (Some l) has = has.1 page place
+      by None none = (
+        λ is. nowhere page place is,
+        λ is.
+            let placed = in_place s rows (shard c o is.first is.extents) a.good is.has_shard in
+            absurd (let t = sym placed.has_onode ∙ ap is_some none in cc),
+      )
 
   -- what the rows say of a page that stood
   was_good : (o : List ℕ) (page : ℕ) (place : Place) → IsName o → finite.get (or_empty (layouts o)).pages page ≡ Some place
@@ -193,14 +132,22 @@ module _ (s : Super) (rows after : Rows) (c : List ℕ) (layouts : List ℕ → 
             csum = was.1;
           }
 
-  -- all its pages stand on units of its own
-  pub now_own : (o : List ℕ) → IsName o → (page : ℕ) (place : Place) → finite.get (or_empty (now o)).pages page ≡ Some place → IsOwn place
-  now_own o name page place is = let of : OfDraft o page place = of_draft o page place is in by place of of.stands
+  -- the numbers of its pages' places fit
+  was_fits : (o : List ℕ) (page : ℕ) (place : Place) → IsName o → finite.get (or_empty (layouts o)).pages page ≡ Some place → FitsPlace (width_of s) place
+  was_fits o page (own unit csum) name is = let g = was_good o page (own unit csum) name is in (omega (arith, g.0.1, a.units_most), g.1)
+  was_fits o page (slot sbid index) name is =
+      let at = page_slot s rows a.good c o page sbid index ((map_was o name page (slot sbid index)).0 is) in
+      slot_fits (width_of s) rows sbid index at.unit at.is at.has_slot
+
+  pub now_fits : (o : List ℕ) → IsName o → (page : ℕ) (place : Place) → finite.get (or_empty (now o)).pages page ≡ Some place
+      → FitsPlace (width_of s) place
+  now_fits o name page place is = let of : OfDraft o page place = of_draft o page place is in by place of of.stands
     where
-      by : (place : Place) (of : OfDraft o page place) → StandsAt units held of.draft page place → IsOwn place
-      by _ of (by_taking taking put) = tt
-      by _ of (as_before place none kept) =
-          layout_own s rows a.good c o (layouts o) (a.has o name) page place ((object_reached o of.draft name of.there).kept page place kept)
+      by : (place : Place) (of : OfDraft o page place) → StandsAt units held of.draft page place → FitsPlace (width_of s) place
+      by _ of (by_taking taking put) =
+          let st : Stands y taking = record { object = o; named = name; draft = of.draft; there = of.there; page = page; put = put } in
+          (omega (arith, (a.on_data taking st).1, a.units_most), a.sums taking st)
+      by _ of (as_before place none kept) = was_fits o page place name ((object_reached o of.draft name of.there).kept page place kept)
 
   -- ---- one object's rows
 
@@ -208,7 +155,7 @@ module _ (s : Super) (rows after : Rows) (c : List ℕ) (layouts : List ℕ → 
   extents o = extents_at (now o)
 
   pub fit : (o : List ℕ) → IsName o → AllByRecursion (FitsExtent (width_of s)) (extents o)
-  fit o name = layout_fit s (now o) (now_most o name) a.units_most (now_good o name) (now_own o name)
+  fit o name = layout_fit s (now o) (now_most o name) (now_good o name) (now_fits o name)
 
   module _ (o : List ℕ) (name : IsName o) where
     onode_fits : (n : ℕ) → size_at (now o) ≡ Some n → n < 2 ^ 64
@@ -220,20 +167,6 @@ module _ (s : Super) (rows after : Rows) (c : List ℕ) (layouts : List ℕ → 
       fits = (a.coll, name, onode_fits n is);
       stands = (a.gets.objects o name).onode ∙ ap (option_map (to_le_bytes w64)) is;
     }
-
-    -- an object that is missing had no pages
-    map_was : (page : ℕ) (place : Place) → (finite.get (or_empty (layouts o)).pages page ≡ Some place) ↔ IsPageAt (width_of s) rows c o page place
-    map_was page place = by (layouts o) (a.has o name)
-      where
-        by : (z : Option Layout) → HasLayout (width_of s) rows c o z
-            → (finite.get (or_empty z).pages page ≡ Some place) ↔ IsPageAt (width_of s) rows c o page place
-        by (Some l) has = has.1 page place
-        by None none = (
-          λ is. nowhere page place is,
-          λ is.
-              let placed = in_place s rows (shard c o is.first is.extents) a.good is.has_shard in
-              absurd (let t = sym placed.has_onode ∙ ap is_some none in cc),
-        )
 
     -- its shards as they were
     module _ (same : (page : ℕ) → page < 2 ^ 32 → finite.get after (shard_key c o page) ≡ finite.get rows (shard_key c o page)) where
@@ -260,14 +193,14 @@ module _ (s : Super) (rows after : Rows) (c : List ℕ) (layouts : List ℕ → 
       }
 
     -- its pages are those of its layout
-    map_now : (page : ℕ) (place : Place) → (finite.get (or_empty (now o)).pages page ≡ Some place) ↔ IsPageAt (width_of s) after c o page place
+    pub map_now : (page : ℕ) (place : Place) → (finite.get (or_empty (now o)).pages page ≡ Some place) ↔ IsPageAt (width_of s) after c o page place
     map_now page place = by (a.gets.objects o name).shards
       where
         by : GetsShards (width_of s) rows after c o (or_empty (layouts o)).pages (or_empty (now o)).pages
             → (finite.get (or_empty (now o)).pages page ≡ Some place) ↔ IsPageAt (width_of s) after c o page place
         by (stay e same) = (
-          λ is. page_is same page place ((map_was page place).0 (ap (λ m. finite.get m page) e ∙ is)),
-          λ is. sym (ap (λ m. finite.get m page) e) ∙ (map_was page place).1 (page_was same page place is),
+          λ is. page_is same page place ((map_was o name page place).0 (ap (λ m. finite.get m page) e ∙ is)),
+          λ is. sym (ap (λ m. finite.get m page) e) ∙ (map_was o name page place).1 (page_was same page place is),
         )
         by (cut apart are) = own_pages s after c o (or_empty (now o)).pages a.coll name (fit o name) are page place
 
@@ -313,27 +246,29 @@ module _ (s : Super) (rows after : Rows) (c : List ℕ) (layouts : List ℕ → 
         by None p none = absurd (let t = sym has.stands ∙ none in cc)
         by (Some d) p there = (d, p, one_size o d.size n there.0 has)
 
+  -- rows under other keys are as they were
+  kept : (key : List ℕ) → (IsKeyOfColl c key → ⊥) → (IsKeyOfSlot y.unshared key → ⊥) → finite.get after key ≡ finite.get rows key
+  kept key none no_slot = elim (a.gets.others key) [
+    | inl its ↦ absurd (elim its [ inl mine ↦ none mine | inr of ↦ no_slot of ])
+    | inr same ↦ same
+  ]
+
   -- the rows of other collections' names are as they were
   pub colls_same : (d : List ℕ) → d ≢ c → finite.get after (coll_key d) ≡ finite.get rows (coll_key d)
-  colls_same d apart = elim (a.gets.others (coll_key d)) [ inl its ↦ absurd (coll_apart_of c d apart its) | inr same ↦ same ]
+  colls_same d apart = kept (coll_key d) (coll_apart_of c d apart) (no_blob y.unshared 0x43 d (λ e. omega (arith, e)))
 
   -- and all their rows
   module _ (d : List ℕ) (other : IsCollName d) (apart : d ≢ c) where
-    kept : (key : List ℕ) → (IsKeyOfColl c key → ⊥) → finite.get after key ≡ finite.get rows key
-    kept key none = elim (a.gets.others key) [ inl its ↦ absurd (none its) | inr same ↦ same ]
-
-    coll_same : finite.get after (coll_key d) ≡ finite.get rows (coll_key d)
-    coll_same = kept (coll_key d) (coll_apart_of c d apart)
-
     module _ (u : List ℕ) (named : IsName u) where
       pub onode_same : finite.get after (onode_key d u) ≡ finite.get rows (onode_key d u)
-      onode_same = kept (onode_key d u) (onode_apart c d a.coll other apart u named)
+      onode_same = kept (onode_key d u) (onode_apart c d a.coll other apart u named) (no_blob y.unshared 0x4f _ (λ e. omega (arith, e)))
 
       shard_same : (page : ℕ) → page < 2 ^ 32 → finite.get after (shard_key d u page) ≡ finite.get rows (shard_key d u page)
       shard_same page lt = kept (shard_key d u page) (shard_apart c d a.coll other apart u named page lt)
+          (no_blob y.unshared 0x4f _ (λ e. omega (arith, e)))
 
       pub value_same : (k : ValueKey) → finite.get after (value_key d u k) ≡ finite.get rows (value_key d u k)
-      value_same k = kept (value_key d u k) (value_apart c d a.coll other apart u named k)
+      value_same k = kept (value_key d u k) (value_apart c d a.coll other apart u named k) (value_no_blob y.unshared d u k)
 
     pub other_onode : (u : List ℕ) (n : ℕ) → HasOnode after d u n ↔ HasOnode rows d u n
     other_onode u n = (
@@ -353,17 +288,158 @@ module _ (s : Super) (rows after : Rows) (c : List ℕ) (layouts : List ℕ → 
       λ is. record { first = is.first; extents = is.extents; has_shard = (other_shard u is.first is.extents).1 is.has_shard; has_page = is.has_page },
     )
 
-    pub other_coll : finite.get after (coll_key d) ≡ finite.get rows (coll_key d)
-    other_coll = coll_same
-
     other_object : (u : List ℕ) → IsName u → HasObject rows d u → HasObject after d u
-    other_object u named has = (ap is_some coll_same ∙ has.0, ap is_some (onode_same u named) ∙ has.1)
+    other_object u named has = (ap is_some (colls_same d apart) ∙ has.0, ap is_some (onode_same u named) ∙ has.1)
 
   pub bits_same : (r : ℕ) → finite.get after (bitmap_key r) ≡ finite.get rows (bitmap_key r)
-  bits_same r = elim (a.gets.others (bitmap_key r)) [ inl its ↦ absurd (bits_apart c r its) | inr same ↦ same ]
+  bits_same r = kept (bitmap_key r) (bits_apart c r) (no_blob y.unshared 0x62 _ (λ e. omega (arith, e)))
 
-  pub blobs_same : (sbid : ℕ) → finite.get after (shared_key sbid) ≡ finite.get rows (shared_key sbid)
-  blobs_same sbid = elim (a.gets.others (shared_key sbid)) [ inl its ↦ absurd (blobs_apart c sbid its) | inr same ↦ same ]
+  -- ---- blobs
+
+  -- rows of blobs that the collection didn't name are as they were
+  pub blob_as_before : (sbid : ℕ) → sbid < 2 ^ 64 → (IsNamedBy (width_of s) rows c sbid → ⊥)
+      → finite.get after (shared_key sbid) ≡ finite.get rows (shared_key sbid)
+  blob_as_before sbid low none = elim (left_or_none sbid y.unshared) [
+    | inl empty ↦ a.gets.blobs sbid low ∙ ap (blob_after (width_of s) (finite.get rows (shared_key sbid))) empty
+    | inr one ↦ absurd (none (subst (IsNamedBy (width_of s) rows c) one.2 (left_named (width_of s) rows c layouts a.has y a.reached one.0 one.1)))
+  ]
+
+  -- a page that stands on a slot stood there
+  pub stood_on : (o : List ℕ) (page sbid index : ℕ) → finite.get (or_empty (now o)).pages page ≡ Some (slot sbid index)
+      → finite.get (or_new (y.layout o)).kept page ≡ Some (slot sbid index)
+  stood_on o page sbid index is = let of : OfDraft o page (slot sbid index) = of_draft o page (slot sbid index) is in by (slot sbid index) of of.stands refl
+    where
+      by : (place : Place) (of : OfDraft o page place) → StandsAt units held of.draft page place → place ≡ slot sbid index
+          → finite.get (or_new (y.layout o)).kept page ≡ Some (slot sbid index)
+      by _ of (by_taking taking put) e = absurd cc
+      by _ of (as_before place none kept) e = ap (λ x. finite.get (or_new x).kept page) of.there ∙ kept ∙ ap Some e
+
+  pub was_on : (o : List ℕ) → IsName o → (page sbid index : ℕ) → finite.get (or_new (y.layout o)).kept page ≡ Some (slot sbid index)
+      → IsPageAt (width_of s) rows c o page (slot sbid index)
+  was_on o name page sbid index is = by (y.layout o) refl is
+    where
+      by : (x : Option Draft) → y.layout o ≡ x → finite.get (or_new x).kept page ≡ Some (slot sbid index)
+          → IsPageAt (width_of s) rows c o page (slot sbid index)
+      by None p e = nowhere page (slot sbid index) e
+      by (Some d) p e = (map_was o name page (slot sbid index)).0 ((object_reached o d name p).kept page (slot sbid index) e)
+
+  -- where a page of the collection named a slot, the pages that name it are those of the collection
+  pub named_here : (sbid index : ℕ) (pages : List PageName) → AreNamers (width_of s) rows sbid index pages → IsNamedBy (width_of s) rows c sbid
+      → AreThose (Named c layouts sbid index) pages
+  named_here sbid index pages are named = record { each = λ p. (λ k. own_name p ((are.each p).0 k), λ is. (are.each p).1 (page_at p is)); once = are.once }
+    where
+      own_name : (p : PageName) → IsPageAt (width_of s) rows p.coll p.object p.page (slot sbid index) → Named c layouts sbid index p
+      own_name p at =
+          let home = one_home s rows a.good p.coll c sbid (page_names (width_of s) rows p.coll p.object p.page sbid index at) named in
+          record {
+            coll = home;
+            named = at.has_shard.fits.object_name;
+            stood = (map_was p.object at.has_shard.fits.object_name p.page (slot sbid index)).1
+                (subst (λ d. IsPageAt (width_of s) rows d p.object p.page (slot sbid index)) home at);
+          }
+
+      page_at : (p : PageName) → Named c layouts sbid index p → IsPageAt (width_of s) rows p.coll p.object p.page (slot sbid index)
+      page_at p is = subst (λ d. IsPageAt (width_of s) rows d p.object p.page (slot sbid index)) (sym is.coll)
+          ((map_was p.object is.named p.page (slot sbid index)).0 is.stood)
+
+  -- a slot on which a page stands still keeps a count
+  pub slot_stays : (o : List ℕ) → IsName o → (page sbid index unit : ℕ) (x : Slot) → HasSlot (width_of s) rows sbid index unit x
+      → finite.get (or_new (y.layout o)).kept page ≡ Some (slot sbid index)
+      → HasSlot (width_of s) after sbid index unit (record { csum = x.csum; count = x.count - times_in (indexes_of sbid y.unshared) index })
+  slot_stays o name page sbid index unit x has stands =
+      let counted = a.counts sbid index unit x has in
+      let named = page_names (width_of s) rows c o page sbid index (was_on o name page sbid index stands) in
+      let still = a.balance sbid index counted.pages (named_here sbid index counted.pages counted.namers named) in
+      let here = (still.1.each (record { coll = c; object = o; page = page })).1 (record { coll = refl; named = name; stands = stands }) in
+      let low = has.has_blob.fits.number in
+      slot_kept s rows after a.good sbid low (indexes_of sbid y.unshared) (a.gets.blobs sbid low) index unit x has
+      (omega (arith, counting.some_page still.0 _ here, counted.count_is, still.2))
+
+  -- so it stands on the same unit, with the checksum that is kept for it
+  pub stood_same : (o : List ℕ) → IsName o → (page : ℕ) (place : Place) (on : PageUnit) → finite.get (or_new (y.layout o)).kept page ≡ Some place
+      → StandsOn (width_of s) after place on → StandsOn (width_of s) rows place on
+  stood_same o name page (own unit csum) on kept stands = stands
+  stood_same o name page (slot sbid index) on kept stands =
+      let was = page_slot s rows a.good c o page sbid index (was_on o name page sbid index kept) in
+      let old : PageUnit = record { unit = was.unit; csum = was.is.csum } in
+      let still : StandsOn (width_of s) after (slot sbid index) old = (_, (slot_stays o name page sbid index was.unit was.is was.has_slot kept, refl)) in
+      subst (StandsOn (width_of s) rows (slot sbid index)) (one_unit (width_of s) after (slot sbid index) old on still stands) (was.is, (was.has_slot, refl))
+
+  -- the blobs of other collections' pages are as they were
+  other_blob : (d o : List ℕ) (page sbid index : ℕ) → d ≢ c → IsPageAt (width_of s) rows d o page (slot sbid index)
+      → finite.get after (shared_key sbid) ≡ finite.get rows (shared_key sbid)
+  other_blob d o page sbid index apart at =
+      let named = page_names (width_of s) rows d o page sbid index at in
+      blob_as_before sbid (page_slot s rows a.good d o page sbid index at).has_slot.has_blob.fits.number
+      (λ here. apart (one_home s rows a.good d c sbid named here))
+
+  pub others_stand : (d o : List ℕ) (page : ℕ) (place : Place) (on : PageUnit) → d ≢ c → IsPageAt (width_of s) rows d o page place
+      → StandsOn (width_of s) after place on ↔ StandsOn (width_of s) rows place on
+  others_stand d o page (own unit csum) on apart at = (λ is. is, λ is. is)
+  others_stand d o page (slot sbid index) on apart at =
+      let same = other_blob d o page sbid index apart at in (
+        λ is. (is.0, (slot_still (width_of s) after rows sbid index on.unit is.0 (sym same) is.1.0, is.1.1)),
+        λ is. (is.0, (slot_still (width_of s) rows after sbid index on.unit is.0 same is.1.0, is.1.1)),
+      )
+
+  -- the slot of each page is there
+  slot_at : (d o : List ℕ) (page sbid index : ℕ) → IsPageAt (width_of s) after d o page (slot sbid index) → HasSome (width_of s) after sbid index
+  slot_at d o page sbid index at = elim (equal_or_not d c) [
+    | inl e ↦
+        let name = at.has_shard.fits.object_name in
+        let mine = subst (λ z. IsPageAt (width_of s) after z o page (slot sbid index)) e at in
+        let kept = stood_on o page sbid index ((map_now o name page (slot sbid index)).1 mine) in
+        let was = page_slot s rows a.good c o page sbid index (was_on o name page sbid index kept) in
+        record { unit = was.unit; is = _; has_slot = slot_stays o name page sbid index was.unit was.is was.has_slot kept }
+    | inr apart ↦
+        let before = (other_page d at.has_shard.fits.coll_name apart o page (slot sbid index)).0 at in
+        let was = page_slot s rows a.good d o page sbid index before in
+        let same = other_blob d o page sbid index apart before in
+        record { unit = was.unit; is = was.is; has_slot = slot_still (width_of s) rows after sbid index was.unit was.is same was.has_slot }
+  ]
+
+  -- shards name what they named
+  ascend_now : (u : List ℕ) (page : ℕ) (es : List Extent) → HasShard (width_of s) after c u page es → ExtentsAscend es
+  ascend_now u page es has = let name = has.fits.object_name in by name (a.gets.objects u name).shards
+    where
+      by : (name : IsName u) → GetsShards (width_of s) rows after c u (or_empty (layouts u)).pages (or_empty (now u)).pages → ExtentsAscend es
+      by name (stay e same) = (in_place s rows (shard c u page es) a.good (shard_was u name same page es has)).ascend
+      by name (cut apart are) = cut_ascend s after c u (or_empty (now u)).pages a.coll name (fit u name) are page es has
+
+  pub named_was : (d : List ℕ) (sbid : ℕ) → IsNamedBy (width_of s) after d sbid → IsNamedBy (width_of s) rows d sbid
+  named_was d sbid named = elim (equal_or_not d c) [
+    | inl e ↦ subst (λ z. IsNamedBy (width_of s) rows z sbid) (sym e) (own_named (subst (λ z. IsNamedBy (width_of s) after z sbid) e named))
+    | inr apart ↦ record {
+      object = named.object;
+      page = named.page;
+      extents = named.extents;
+      has_shard = (other_shard d named.has_shard.fits.coll_name apart named.object named.page named.extents).0 named.has_shard;
+      names = named.names;
+    }
+  ]
+    where
+      own_named : IsNamedBy (width_of s) after c sbid → IsNamedBy (width_of s) rows c sbid
+      own_named named =
+          let on = named_page (width_of s) after c sbid named (ascend_now named.object named.page named.extents named.has_shard) in
+          let name = on.at.has_shard.fits.object_name in
+          page_names (width_of s) rows c on.object on.page sbid on.index (was_on on.object name on.page sbid on.index
+          (stood_on on.object on.page sbid on.index ((map_now on.object name on.page (slot sbid on.index)).1 on.at)))
+
+  -- so each page's place has what it wants, and each shard the slots that it wants
+  place_has : (d o : List ℕ) (page : ℕ) (place : Place) → IsPageAt (width_of s) after d o page place → HasPlace (width_of s) after d place
+  place_has d o page (own unit csum) at = tt
+  place_has d o page (slot sbid index) at =
+      let is = slot_at d o page sbid index at in
+      let was = named_was d sbid (page_names (width_of s) after d o page sbid index at) in (
+        ap is_some is.has_slot.has_blob.stands,
+        λ unit slots row. slot_inside (width_of s) after sbid index is.unit unit is.is slots is.has_slot row,
+        λ earlier. less_apart earlier.coll d earlier.before (one_home s rows a.good earlier.coll d sbid (named_was earlier.coll sbid earlier.named) was),
+      )
+
+  shard_slots : (d u : List ℕ) (page : ℕ) (es : List Extent) → HasShard (width_of s) after d u page es → ExtentsAscend es
+      → AllByRecursion (λ e. HasSlots (width_of s) after d e.body) es
+  shard_slots d u page es has ascend = places_have (width_of s) after d es ascend has.fits.fit
+      (λ p place is. place_has d u p place (record { first = page; extents = es; has_shard = has; has_page = is }))
 
   -- ---- all are in their places
 
@@ -406,13 +482,14 @@ module _ (s : Super) (rows after : Rows) (c : List ℕ) (layouts : List ℕ → 
             within = λ n h. ends_within (width_of s) es (pages_of n) has.fits.fit
                 (λ p place is. within_now n h p place (record { first = page; extents = es; has_shard = has; has_page = is }));
             on_data = was.on_data;
-            slots = wants_none s after c es was.on_data;
+            slots = shard_slots c u page es has was.ascend;
           }
       by (cut apart are) = new_in_place s after c u (or_empty (now u)).pages a.coll name (fit u name) are (coll_there u name is_there)
           (onode_there u name is_there)
           (λ n h. ends_within (width_of s) (extents u) (pages_of n) (fit u name)
           (λ p place is. within_now n h p place ((map_now u name p place).0 (sym (places_at (now u) p) ∙ is))))
-          (layout_on_data s (now u) (now_most u name) a.units_most (now_good u name) (now_own u name)) page es has
+          (layout_on_data s (now u) (now_most u name) (now_good u name) (now_fits u name)) page es has
+          (shard_slots c u page es has (cut_ascend s after c u (or_empty (now u)).pages a.coll name (fit u name) are page es has))
 
   placed : (x : Row) → HasRow (width_of s) after x → IsInPlace s after x
   placed (collection d) has = tt
@@ -425,7 +502,7 @@ module _ (s : Super) (rows after : Rows) (c : List ℕ) (layouts : List ℕ → 
         )
     | inr apart ↦
         let was = in_place s rows (onode d u n) a.good ((other_onode d has.fits.0 apart u n).0 has) in
-        (ap is_some (coll_same d has.fits.0 apart) ∙ was.0, was.1)
+        (ap is_some (colls_same d apart) ∙ was.0, was.1)
   ]
   placed (shard d u page es) has = elim (equal_or_not d c) [
     | inl e ↦ subst (λ z. IsShardInPlace s after z u page es) (sym e)
@@ -434,13 +511,13 @@ module _ (s : Super) (rows after : Rows) (c : List ℕ) (layouts : List ℕ → 
         let coll_is = has.fits.coll_name in
         let was = in_place s rows (shard d u page es) a.good ((other_shard d coll_is apart u page es).0 has) in
         record {
-          has_collection = ap is_some (coll_same d coll_is apart) ∙ was.has_collection;
+          has_collection = ap is_some (colls_same d apart) ∙ was.has_collection;
           has_onode = ap is_some (onode_same d coll_is apart u has.fits.object_name) ∙ was.has_onode;
           ascend = was.ascend;
           behind = λ earlier fs below h. was.behind earlier fs below ((other_shard d coll_is apart u earlier fs).0 h);
           within = λ n h. was.within n ((other_onode d coll_is apart u n).0 h);
           on_data = was.on_data;
-          slots = wants_none s after d es was.on_data;
+          slots = shard_slots d u page es has was.ascend;
         }
   ]
   placed (format.attribute d u n value) has = elim (equal_or_not d c) [
@@ -462,7 +539,7 @@ module _ (s : Super) (rows after : Rows) (c : List ℕ) (layouts : List ℕ → 
         (record { fits = has.fits; stands = sym (value_same d has.fits.coll_name apart u has.fits.object_name (pair q)) ∙ has.stands }))
   ]
   placed (blob sbid first slots) has =
-      in_place s rows (blob sbid first slots) a.good (record { fits = has.fits; stands = sym (blobs_same sbid) ∙ has.stands })
+      blob_placed s rows after a.good sbid has.fits.number (indexes_of sbid y.unshared) (a.gets.blobs sbid has.fits.number) first slots has
   placed (bitmap r bits) has = in_place s rows (bitmap r bits) a.good (record { fits = has.fits; stands = sym (bits_same r) ∙ has.stands })
 
   -- a row by its key and its value
@@ -531,17 +608,25 @@ module _ (s : Super) (rows after : Rows) (c : List ℕ) (layouts : List ℕ → 
       by (pair q) named e fits = good_row key value (omap_pair c o q value) stands
           (record { coll_name = a.coll; object_name = name; named = named; short = fits }) e refl
 
+  blob_good : (key value : List ℕ) → finite.get after key ≡ Some value → IsKeyOfSlot y.unshared key → IsGoodRow s after key value
+  blob_good key value stands of = subst (λ k. IsGoodRow s after k value) (sym of.is)
+      (blob_row_good s rows after a.good of.sbid of.small (indexes_of of.sbid y.unshared) (a.gets.blobs of.sbid of.small) value
+      (ap (finite.get after) (sym of.is) ∙ stands))
+
+  coll_rows_good : (key value : List ℕ) → finite.get after key ≡ Some value → IsKeyOfColl c key → IsGoodRow s after key value
+  coll_rows_good key value stands its = elim its [
+    | inl e ↦ coll_good key value stands e
+    | inr of ↦ elim of.2 [
+      | inl rows_key ↦ elim rows_key [
+        | inl e ↦ onode_good of.0 key value of.1 stands e
+        | inr p ↦ shard_good of.0 key value p.0 p.1 of.1 stands p.2
+      ]
+      | inr its ↦ value_good of.0 key value of.1 stands its.of its.named its.is
+    ]
+  ]
+
   pub drafted_good : NoBadRow s after
   drafted_good key value stands = elim (a.gets.others key) [
     | inr same ↦ still_good key value stands same
-    | inl its ↦ elim its [
-      | inl e ↦ coll_good key value stands e
-      | inr of ↦ elim of.2 [
-        | inl rows_key ↦ elim rows_key [
-          | inl e ↦ onode_good of.0 key value of.1 stands e
-          | inr p ↦ shard_good of.0 key value p.0 p.1 of.1 stands p.2
-        ]
-        | inr its ↦ value_good of.0 key value of.1 stands its.of its.named its.is
-      ]
-    ]
+    | inl its ↦ elim its [ inl mine ↦ coll_rows_good key value stands mine | inr of ↦ blob_good key value stands of ]
   ]

@@ -12,14 +12,15 @@ use Rattle.object_model.specs.Prelude.{Object, Collection, Objects, with_collect
 use Rattle.unit_fields.specs.Prelude.{IsName, IsCollName}
 use Rattle.row_format.specs.Prelude.{coll_key, onode_key, Place}
 use Rattle.store_image.specs.Prelude.{HasOnode, PageUnit, StandsOn, HasPage, IsPageAt, IsPageOn, IsHole, page_bytes, IsPageSeen, IsObjectShape, IsShape, AreObjectBytes, AreBytes, ObjectsStand}
-use Rattle.store_image.proofs.Prelude.{equal_or_not, stands_still, some_unit}
+use Rattle.store_image.proofs.Prelude.{equal_or_not, some_unit}
 use Rattle.store_image.proofs.PageUnits.{one_unit}
 use Rattle.row_facts.proofs.Maps.{get_same, get_other}
 use Rattle.plan_drafts.specs.declared.draft.Draft.{Draft}
-use Rattle.plan_drafts.specs.Prelude.{Held, is_there, HoldBytes, Layout, HasLayout, or_empty, attribute, header, pair, not_empty, CollDraft, place_put, laid, Stands}
+use Rattle.plan_drafts.specs.Prelude.{Held, is_there, HoldBytes, Layout, HasLayout, or_empty, or_new, attribute, header, pair, not_empty, CollDraft, place_put, laid, Stands}
 use Rattle.plan_proofs.proofs.DraftBytes.{HoldsAll}
 use Rattle.plan_proofs.proofs.DraftOwners.{layout_pages}
-use Rattle.plan_proofs.proofs.DraftRows.{AreDrafted, now, has_now, object_reached, value_same, onode_same, other_onode, other_page, blobs_same, colls_same, drafted_good}
+use Rattle.plan_proofs.proofs.Drafted.{AreDrafted}
+use Rattle.plan_proofs.proofs.DraftRows.{now, has_now, object_reached, value_same, onode_same, other_onode, other_page, colls_same, stood_same, others_stand, drafted_good}
 use Rattle.plan_proofs.proofs.Effects.{get_apart, get_taken}
 use Rattle.plan_proofs.proofs.Laid.{laid_put, laid_kept, laid_cases, StandsAt, by_taking, as_before}
 use Rattle.plan_proofs.proofs.Matches.{object_in, Matches}
@@ -188,7 +189,7 @@ module _ (s : Super) (rows after : Rows) (c : List ℕ) (layouts : List ℕ → 
                 let held_there = hold.kept page place kept none in
                 let stood = (object_reached s rows after c layouts units held y a o of.draft name of.there).kept page place kept in
                 let before : StandsOn (width_of s) rows place on =
-                stands_still (width_of s) after rows place on (λ sbid. sym (blobs_same s rows after c layouts units held y a sbid)) stands in
+                stood_same s rows after c layouts units held y a o name page place on (ap (λ z. map.get (or_new z).kept page) of.there ∙ kept) stands in
                 let on_is : y.on place ≡ on = one_unit (width_of s) rows place (y.on place) on (a.stand o page place name stood) before in
                 let has : HasPage (width_of s) rows on.unit = record {
                   coll = c;
@@ -224,10 +225,11 @@ module _ (s : Super) (rows after : Rows) (c : List ℕ) (layouts : List ℕ → 
     other_bytes : (d o : List ℕ) (b : List ℕ) → d ≢ c → IsCollName d → AreObjectBytes (width_of s) at rows d o b → AreObjectBytes (width_of s) later_at after d o b
     other_bytes d o b apart coll_is before = record {
       mapped = λ page on is.
+          let at = (other_page s rows after c layouts units held y a d coll_is apart o page is.place).0 is.at in
           let was : IsPageOn (width_of s) rows d o page on = record {
             place = is.place;
-            at = (other_page s rows after c layouts units held y a d coll_is apart o page is.place).0 is.at;
-            stands = stands_still (width_of s) after rows is.place on (λ sbid. sym (blobs_same s rows after c layouts units held y a sbid)) is.stands;
+            at = at;
+            stands = (others_stand s rows after c layouts units held y a d o page is.place on apart at).0 is.stands;
           } in
           let seen = before.mapped page on was in
           let has : HasPage (width_of s) rows on.unit = record { coll = d; object = o; page = page; on = on; is_on = was; is_unit = refl } in
@@ -235,7 +237,7 @@ module _ (s : Super) (rows after : Rows) (c : List ℕ) (layouts : List ℕ → 
       holes = λ page hole. before.holes page (λ on is. hole on (record {
         place = is.place;
         at = (other_page s rows after c layouts units held y a d coll_is apart o page is.place).1 is.at;
-        stands = stands_still (width_of s) rows after is.place on (blobs_same s rows after c layouts units held y a) is.stands;
+        stands = (others_stand s rows after c layouts units held y a d o page is.place on apart is.at).1 is.stands;
       }));
     }
 

@@ -1,5 +1,5 @@
 -- The draft that a transaction begins with: what holds of it, and that plain objects of the rows' shape are as it has them.
-use Rattle.std.proofs.Common.{◌≡◌, ℕ, ◌<◌, ◌≤◌, true, false, List, [], ◌∷◌, length, Option, Some, None, is_some, unwrap_or, refl, sym, ap, subst, ◌∙◌, arith}
+use Rattle.std.proofs.Common.{◌≡◌, ℕ, ◌<◌, ◌≤◌, true, false, List, [], ◌∷◌, length, Contains, Option, Some, None, is_some, unwrap_or, refl, sym, ap, subst, ◌∙◌, arith}
 use Rattle.std.specs.Prelude.{◌||◌}
 use Rattle.std.specs.Option.{option_map}
 use Rattle.std.specs.Ordering.{nat_cmp}
@@ -115,6 +115,7 @@ module _ (s : Super) (rows : Rows) (good : NoBadRow s rows) (c : List ℕ) (coll
     objects = first_object;
     once = λ o u x y p q taking name named is at one two.
         let of = of_layout o x name is in nothing p taking (ap (λ (z : Draft). map.get z.puts p) (sym of.2) ∙ one);
+    left = λ x k. absurd (let t = subst (λ ss. Contains ss x) begins.none_left k in omega (arith, t.1));
     in_coll = λ o name some. in_coll o name (d.layout o) refl some;
     values = λ o k value name named is.
         let f = value_found s rows good c o coll name k value (sym (begins.values o k name named) ∙ is) in (f.0, some_by o name f.1.1);

@@ -9,8 +9,10 @@ use Rattle.object_model.specs.Prelude.{object_limit}
 use Rattle.unit_fields.specs.Prelude.{IsName, IsCollName, bytes_of}
 use Rattle.unit_fields.specs.declared.width.Width.{Width}
 use Rattle.unit_fields.specs.declared.width.Width.TheVariants.{FourBytes}
-use Rattle.row_format.specs.Prelude.{object_key, coll_key, onode_key, shard_key, Extent, Body, private, shared, page_count, page_end, body_bytes, extent_bytes, FitsBody, FitsExtent, ExtentsAscend, csum_bytes}
+use Rattle.row_format.specs.Prelude.{object_key, coll_key, onode_key, shard_key, shared_key, Slot, slot_bytes, FitsBlob, blob, row_value, Extent, Body, private, shared, page_count, page_end, body_bytes, extent_bytes, FitsBody, FitsExtent, ExtentsAscend, csum_bytes}
 use Rattle.row_format.proofs.Prelude.{length-csums}
+use Rattle.row_reading.specs.Slots.{slots_size}
+use Rattle.row_reading.proofs.SlotReading.{length-slots}
 use Rattle.store_image.specs.Prelude.{pages_of}
 use Rattle.row_facts.proofs.Lengths.{length-coll}
 use Rattle.extent_shards.specs.Prelude.{shard_bytes, shards_of, shard_limit, IsBounded, joined_extents}
@@ -103,6 +105,25 @@ module _ (c o : List ℕ) (coll : IsCollName c) (name : IsName o) where
   value_fits (attribute n) named = record { some = omega arith; short = omega (arith, length-object_key 0x41 c o n, length-coll c coll, name.short, named.short) }
   value_fits header named = record { some = omega arith; short = omega (arith, length-object_key 0x4d c o (0x2d ∷ []), length-coll c coll, name.short) }
   value_fits (pair q) named = record { some = omega arith; short = omega (arith, length-object_key 0x4d c o (0x2e ∷ q), length-coll c coll, name.short, named.short) }
+
+-- ---- blobs
+
+pub shared_fits : (sbid : ℕ) → IsKey (shared_key sbid)
+shared_fits sbid = record { some = omega arith; short = omega arith }
+
+-- a blob's row is as long as its slots are many
+pub length-blob : (w : Width) (sbid first : ℕ) (slots : List Slot) → length (row_value w (blob sbid first slots)) ≡ 6 + slots_size w (length slots)
+length-blob w sbid first slots = omega (
+  arith,
+  length-append (to_le_bytes w32 first) (to_le_bytes w16 (length slots) ++ flat_map (slot_bytes w) slots),
+  length-append (to_le_bytes w16 (length slots)) (flat_map (slot_bytes w) slots),
+  length-slots w slots,
+)
+
+pub blob_short : (w : Width) (sbid first : ℕ) (slots : List Slot) → FitsBlob w sbid first slots → length (row_value w (blob sbid first slots)) ≤ 65535
+blob_short w sbid first slots fits = omega (arith, length-blob w sbid first slots, bytes_most w (length slots), fits.few)
+
+-- ---- collections and shards
 
 pub coll_fits : (c : List ℕ) → IsCollName c → IsKey (coll_key c)
 coll_fits c coll = record { some = omega arith; short = omega (arith, length-coll c coll) }

@@ -1,5 +1,5 @@
 -- Each plan keeps and makes what is asked of a plan.
-use Rattle.std.proofs.Common.{◌≡◌, inl, inr, ℕ, zero, suc, ◌+◌, ◌*◌, ◌<◌, ◌≤◌, ◌^◌, false, List, [], ◌∷◌, length, map, take, Contains, Ok, refl, sym, ap, subst, ◌∙◌, arith, length-append}
+use Rattle.std.proofs.Common.{◌≡◌, ◌⊎◌, ◌↔◌, inl, inr, ℕ, zero, suc, ◌+◌, ◌*◌, ◌<◌, ◌≤◌, ◌^◌, false, List, [], ◌∷◌, length, map, take, Contains, Ok, refl, sym, ap, subst, ◌∙◌, arith, length-append}
 use Rattle.std.specs.Prelude.{slice_index, sum_by, nat_lt}
 use Rattle.std.specs.List.{AllByRecursion}
 use Rattle.std.specs.FinMap as finite
@@ -15,12 +15,12 @@ use Rattle.meta_rows.proofs.Folds.{rows_after-append}
 use Rattle.meta_log.specs.declared.slot.Super.{Super}
 use Rattle.meta_log.specs.Prelude.{width_of}
 use Rattle.object_model.specs.declared.op.Op.{Op}
-use Rattle.object_model.specs.Prelude.{Objects, Change, names_of, transaction_effect, with_collection, is_too_large, payload_of, payload_limit}
+use Rattle.object_model.specs.Prelude.{Objects, Change, names_of, is_named, transaction_effect, with_collection, is_too_large, payload_of, payload_limit}
 use Rattle.object_model.proofs.Names.{is_own}
 use Rattle.unit_fields.specs.Prelude.{Ascends}
-use Rattle.row_format.specs.Prelude.{Place}
-use Rattle.store_image.specs.Prelude.{HasPage, PageUnit, StandsOn, NoBadRow, page_of, Owns, IsDataUnit, IsOwned, IsMarked, IsExactAs, IsShape, ObjectsStand}
-use Rattle.bitmap_freelist.proofs.Alike.{alike_shape, alike_stand}
+use Rattle.row_format.specs.Prelude.{Place, shard}
+use Rattle.store_image.specs.Prelude.{HasPage, PageUnit, StandsOn, HasShard, IsNamedBy, NoBadRow, IsDataUnit, IsOwned, IsMarked, IsExactAs, IsShape, ObjectsStand}
+use Rattle.bitmap_freelist.proofs.Alike.{object_key_is_other, alike_back, alike_has_row, alike_shape, alike_stand}
 use Rattle.bitmap_freelist.proofs.Records.{flips_fit, flips_size, flips_count}
 use Rattle.unit_allocator.specs.Prelude.{Space, free_units}
 use Rattle.unit_allocator.proofs.FreeUnits.{free_units_ascend}
@@ -28,15 +28,20 @@ use Rattle.unit_allocator.proofs.Lists.{Contains-map, Contains-from_map}
 use Rattle.plan_drafts.specs.declared.draft.Draft.{Draft}
 use Rattle.plan_rows.specs.declared.plan.FreshUnit.{FreshUnit}
 use Rattle.plan_rows.specs.declared.plan.Plan.{Plan}
-use Rattle.plan_drafts.specs.Prelude.{Held, CollDraft, with_op, with_ops, places_of, held_by, none_held, Begins, most_units_of, most_units, Stands, HoldsFresh, StandsOnce, fresh_units, Plans, AreFreeOver, IsKeyOfColl, IsKeyIn, IsKeyOfSome, IsOwnedBy, IsGood, Suits, OwnsItsUnits, AreWhole, PlanKeeps, HoldsRead, PlanMakes, PlanTakes, PlansKeep, units_on, AsksAreFew}
+use Rattle.plan_rows.specs.declared.plan.SlotNo.{SlotNo}
+use Rattle.plan_drafts.specs.Prelude.{Held, CollDraft, with_op, with_ops, places_of, held_by, none_held, Begins, most_units_of, most_units, Stands, HoldsFresh, StandsOnce, fresh_units, Plans, AreFreeOver, IsKeyOfDraft, IsKeyOfSlot, IsKeyOfSome, AreAtHomeIn, IsKeyOfBlob, AreOf, IsGood, Suits, OwnsItsUnits, AreWhole, PlanKeeps, HoldsRead, PlanMakes, PlanTakes, PlansKeep, units_on, AsksAreFew}
 use Rattle.plan_proofs.proofs.DraftBits.{AreTurned, alike, last_was, last_owned, last_left, last_taken, last_gone, last_good, last_exact}
 use Rattle.page_edits.specs.Takings.{WereRead}
 use Rattle.plan_proofs.proofs.DraftBytes.{ByteLaws, AllWhole, on_same, all_hold, all_whole}
-use Rattle.plan_proofs.proofs.DraftRows.{AreDrafted}
+use Rattle.plan_proofs.proofs.Balance.{balanced}
+use Rattle.plan_proofs.proofs.Drafted.{AreDrafted}
+use Rattle.plan_proofs.proofs.DraftRows.{named_was}
+use Rattle.plan_proofs.proofs.Slots.{left_named}
 use Rattle.plan_proofs.proofs.DraftStand.{shape_after, stand_after}
 use Rattle.plan_proofs.proofs.DraftStart.{of_layout, reached_first, matches_first, holds_first}
-use Rattle.plan_proofs.proofs.Elsewhere.{key_in, begins_there, gets_there, keys_named}
+use Rattle.plan_proofs.proofs.Elsewhere.{key_in, HasSame, same_where_agreed, begins_there, freed_there, gets_there, keys_named}
 use Rattle.plan_proofs.proofs.Fits.{difference_fits}
+use Rattle.object_rows.proofs.GoodPages.{all_map}
 use Rattle.object_rows.proofs.Lists.{all_append}
 use Rattle.plan_proofs.proofs.Lists.{all_in}
 use Rattle.plan_proofs.proofs.Matches.{LengthLaw, Matches, AllLead, all_lead, transaction_lead}
@@ -174,17 +179,14 @@ module _ (laws : EditLaws) (lengths : LengthLaw) (bytes : ByteLaws) (counts : Co
   fresh_are : fresh_units plan ≡ map (slice_index units) takings
   fresh_are = ap (map (λ (f : FreshUnit). f.unit)) p.makes.fresh ∙ filled_units units held takings
 
-  turned : AreTurned p.layouts units y (fresh_units plan) plan.released
-  turned = record {
-    taken = λ v. (
-      λ k.
-          let t = Contains-from_map (slice_index units) takings v (subst (λ us. Contains us v) fresh_are k) in
-          (t.0, (p.makes.are_standing t.0).0 t.1, sym t.2),
-      λ t. subst (λ us. Contains us v) (sym fresh_are) (subst (Contains (map (slice_index units) takings)) (sym t.2)
-          (Contains-map (slice_index units) takings t.0 ((p.makes.are_standing t.0).1 t.1))),
-    );
-    left = p.makes.are_left;
-  }
+  fresh_stand : (v : ℕ) → Contains (fresh_units plan) v ↔ ((taking : ℕ) × Stands y taking × (v ≡ slice_index units taking))
+  fresh_stand v = (
+    λ k.
+        let t = Contains-from_map (slice_index units) takings v (subst (λ us. Contains us v) fresh_are k) in
+        (t.0, (p.makes.are_standing t.0).0 t.1, sym t.2),
+    λ t. subst (λ us. Contains us v) (sym fresh_are) (subst (Contains (map (slice_index units) takings)) (sym t.2)
+        (Contains-map (slice_index units) takings t.0 ((p.makes.are_standing t.0).1 t.1))),
+  )
 
   each_standing : (P : ℕ → Type 0) → ((taking : ℕ) → Stands y taking → P taking) → AllByRecursion P takings
   each_standing P each = all_listed P takings (λ t k. each t ((p.makes.are_standing t).0 k))
@@ -217,45 +219,54 @@ module _ (laws : EditLaws) (lengths : LengthLaw) (bytes : ByteLaws) (counts : Co
 
   -- ---- over all rows that suit it
 
-  named_in : (key : List ℕ) → IsKeyIn c key → IsKeyOfSome (names_of change) key
-  named_in key its = record { coll = c; among = is_own change; of = its }
+  left : (x : SlotNo) → Contains y.unshared x → IsNamedBy (width_of s) view c x.sbid
+  left = left_named (width_of s) view c p.layouts p.begins.has y reach
 
-  module _ (rows : Rows) (suits : Suits (names_of change) view plan rows) (over : IsGood s rows) where
+  module _ (rows : Rows) (suits : Suits (width_of s) (names_of change) view plan rows) (over : IsGood s rows) where
     abbrev after : Rows
     after = rows_after rows difference
 
-    agree : (key : List ℕ) → IsKeyIn c key → finite.get rows key ≡ finite.get view key
-    agree key its = suits.agree.own key (named_in key its)
+    same : HasSame (width_of s) c view rows
+    same = same_where_agreed (width_of s) (names_of change) c view rows (is_own change) suits.agree
 
     begins : Begins (width_of s) rows c p.layouts p.start
-    begins = begins_there c view rows agree s good.good p.layouts p.start p.begins
+    begins = begins_there (width_of s) c view rows same p.layouts p.start p.begins
+
+    turned : AreTurned (width_of s) rows p.layouts units y (fresh_units plan) plan.released
+    turned = record {
+      taken = fresh_stand;
+      left = λ v.
+          let freed = freed_there (width_of s) c view rows same y.unshared left v in (
+            λ k. elim ((p.makes.are_left v).0 k) [ inl one ↦ inl one | inr all ↦ inr (freed.0 all) ],
+            λ l. (p.makes.are_left v).1 (elim l [ inl one ↦ inl one | inr all ↦ inr (freed.1 all) ]),
+          );
+    }
 
     unmarked : (v : ℕ) → Contains (fresh_units plan) v → ¬ IsMarked rows v
     unmarked = all_in (λ u. ¬ IsMarked rows u) (fresh_units plan) suits.unmarked
 
     unowned : (taking : ℕ) → Stands y taking → ¬ IsOwned (width_of s) rows (slice_index units taking)
-    unowned taking st owned = unmarked (slice_index units taking) ((turned.taken (slice_index units taking)).1 (taking, st, refl))
+    unowned taking st owned = unmarked (slice_index units taking) ((fresh_stand (slice_index units taking)).1 (taking, st, refl))
         (over.exact.owned_marked (slice_index units taking) owned)
 
     drafted : AreDrafted s rows after c p.layouts units held y
     drafted = record {
       good = over.good;
+      counts = over.exact.counts;
       units_most = omega (arith, free.limits.units_most);
       coll = p.named;
       has = begins.has;
       stand = λ o page place name is. subst (λ (on : Place → PageUnit). StandsOn (width_of s) rows place (on place)) (sym (on_same change.ops p.start))
           (begins.stand o page place name is);
       reached = reach;
-      gets = gets_there c view rows agree difference p.makes.in_order p.makes.changes (width_of s) p.layouts units held y p.makes.gets;
+      balance = balanced c p.layouts change.ops p.start p.taken p.begins.none_left p.begins.drafts;
+      gets = gets_there view difference p.makes.in_order p.makes.changes (width_of s) c rows same p.layouts units held y left p.makes.gets;
       on_data = on_data;
       sums = sums;
     }
 
     rows_are : rows_after after p.makes.flips ≡ rows_after rows plan.ops
     rows_are = sym (ap (rows_after rows) p.makes.ops_are ∙ rows_after-append rows difference p.makes.flips)
-
-    owned_by : (r : Rows) (v : ℕ) → (o : List ℕ) × (page : ℕ) × Owns (width_of s) r (page_of c o page) v → IsOwnedBy (width_of s) (names_of change) r v
-    owned_by r v at = record { coll = c; among = is_own change; object = at.0; page = at.1; owns = at.2 }
 
     keeps_good : NoBadRow s (rows_after rows plan.ops)
     keeps_good = subst (NoBadRow s) rows_are
@@ -265,20 +276,33 @@ module _ (laws : EditLaws) (lengths : LengthLaw) (bytes : ByteLaws) (counts : Co
     keeps_exact = subst (IsExactAs (width_of s) rows) rows_are (last_exact s rows after c p.layouts units held y drafted unowned apart (fresh_units plan)
         plan.released turned p.makes.flips p.makes.turns unmarked rows over.exact)
 
-    owns_units : OwnsItsUnits (width_of s) (names_of change) rows (rows_after rows plan.ops) plan
+    owns_units : OwnsItsUnits (width_of s) rows (rows_after rows plan.ops) plan
     owns_units = record {
       new = λ u owned. elim (last_owned s rows after c p.layouts units held y drafted unowned apart (fresh_units plan) plan.released turned p.makes.flips
           p.makes.turns u (subst (λ r. IsOwned (width_of s) r u) (sym rows_are) owned)) [ inl k ↦ inr k | inr was ↦ inl was ];
       left = λ u owned. elim (last_left s rows after c p.layouts units held y drafted unowned apart (fresh_units plan) plan.released turned p.makes.flips
           p.makes.turns u owned) [ inl still ↦ inl (subst (λ r. IsOwned (width_of s) r u) rows_are still) | inr k ↦ inr k ];
-      taken = λ u k. owned_by (rows_after rows plan.ops) u (subst (λ r. (o : List ℕ) × (page : ℕ) × Owns (width_of s) r (page_of c o page) u) rows_are
-          (last_taken s rows after c p.layouts units held y drafted unowned apart (fresh_units plan) plan.released turned p.makes.flips p.makes.turns u k));
-      was = λ u k. owned_by rows u
-          (last_was s rows after c p.layouts units held y drafted unowned apart (fresh_units plan) plan.released turned p.makes.flips p.makes.turns u k);
+      taken = λ u k. subst (λ r. IsOwned (width_of s) r u) rows_are
+          (last_taken s rows after c p.layouts units held y drafted unowned apart (fresh_units plan) plan.released turned p.makes.flips p.makes.turns u k);
+      was = λ u k. last_was s rows after c p.layouts units held y drafted unowned apart (fresh_units plan) plan.released turned p.makes.flips
+          p.makes.turns u k;
       gone = λ u k owned. last_gone s rows after c p.layouts units held y drafted unowned apart (fresh_units plan) plan.released turned p.makes.flips
           p.makes.turns u (over.exact.one_owner u) k (subst (λ r. IsOwned (width_of s) r u) (sym rows_are) owned);
       once = λ u. stands_once plan.released p.makes.left_ascend u;
     }
+
+    -- shards name the blobs that they named
+    names_kept : (d : List ℕ) (sbid : ℕ) → IsNamedBy (width_of s) (rows_after rows plan.ops) d sbid → IsNamedBy (width_of s) rows d sbid
+    names_kept d sbid named = named_was s rows after c p.layouts units held y drafted d sbid (record {
+      object = named.object;
+      page = named.page;
+      extents = named.extents;
+      has_shard = alike_has_row (width_of s) (rows_after after p.makes.flips) after (shard d named.object named.page named.extents)
+          (alike_back after (rows_after after p.makes.flips) (alike s rows after c p.layouts units held y drafted unowned apart (fresh_units plan) plan.released
+          turned p.makes.flips p.makes.turns)) (object_key_is_other 0x4f d named.object _ (λ e. absurd (omega (arith, e))))
+          (subst (λ r. HasShard (width_of s) r d named.object named.page named.extents) (sym rows_are) named.has_shard);
+      names = named.names;
+    })
 
     -- ---- plain objects
 
@@ -324,31 +348,50 @@ module _ (laws : EditLaws) (lengths : LengthLaw) (bytes : ByteLaws) (counts : Co
 
   -- ---- all of it
 
-  keys : AllByRecursion (λ op. IsKeyOfSome (names_of change) (key_of op)) difference
-  keys = all_map_keys difference (keys_named c view view (λ key its. refl) difference p.makes.in_order p.makes.changes (width_of s) p.layouts units held y p.makes.gets)
-    where
-      all_map_keys : (ops : List RowOp) → AllByRecursion (λ op. IsKeyOfColl c (key_of op)) ops → AllByRecursion (λ op. IsKeyOfSome (names_of change) (key_of op)) ops
-      all_map_keys [] each = tt
-      all_map_keys (op ∷ ops) each = (named_in (key_of op) (key_in c (key_of op) each.0), all_map_keys ops each.1)
+  named : AllByRecursion (λ op. IsKeyOfDraft c y (key_of op)) difference
+  named = keys_named view difference p.makes.in_order p.makes.changes (width_of s) c p.layouts units held y p.makes.gets
 
-  suits_itself : Suits (names_of change) view plan view
+  module _ (home : ℕ → List ℕ) (at_home : AreAtHomeIn (width_of s) home (names_of change) view) where
+    -- a blob whose slots pages left is at home in the collection
+    blob_at_home : (key : List ℕ) → IsKeyOfSlot y.unshared key → IsKeyOfBlob home (names_of change) key
+    blob_at_home key of =
+        let x = of.among.1 in
+        let is_home : home x.sbid ≡ c = at_home c x.sbid (is_own change) (left x (of.among.0, of.among.2, of.among.3)) in
+        record {
+          sbid = of.sbid;
+          small = of.small;
+          among = ap (λ n. is_named (home n) (names_of change)) (sym of.among.4) ∙ ap (λ d. is_named d (names_of change)) is_home ∙ is_own change;
+          is = of.is;
+        }
+
+    keys : AllByRecursion (λ op. IsKeyOfSome (names_of change) (key_of op) ⊎ IsKeyOfBlob home (names_of change) (key_of op)) difference
+    keys = all_map (λ op. IsKeyOfDraft c y (key_of op)) (λ op. IsKeyOfSome (names_of change) (key_of op) ⊎ IsKeyOfBlob home (names_of change) (key_of op))
+        (λ op its. elim its [
+          | inl mine ↦ inl (record { coll = c; among = is_own change; of = key_in c (key_of op) mine })
+          | inr of ↦ inr (blob_at_home (key_of op) of)
+        ]) difference named
+
+    are_of : AreOf home (names_of change) (fresh_units plan) plan.released plan.ops
+    are_of = record { named = (p.named, tt); own = difference; flips = p.makes.flips; is = p.makes.ops_are; keys = keys; turns = p.makes.turns }
+
+  suits_itself : Suits (width_of s) (names_of change) view plan view
   suits_itself = record {
-    agree = record { own = λ key its. refl };
-    unmarked = all_listed (λ u. ¬ IsMarked view u) (fresh_units plan) (λ v k. let t = (turned.taken v).0 k in
+    agree = record { own = λ key its. refl; blobs = λ d sbid among named. refl };
+    unmarked = all_listed (λ u. ¬ IsMarked view u) (fresh_units plan) (λ v k. let t = (fresh_stand v).0 k in
         subst (λ u. ¬ IsMarked view u) (sym t.2) (free.free (slice_index units t.0) (is_free_unit t.0 t.1)).2);
   }
 
   keeps : PlanKeeps s (names_of change) view plan
   keeps = record {
-    of = record { named = (p.named, tt); own = difference; flips = p.makes.flips; is = p.makes.ops_are; keys = keys; turns = p.makes.turns };
+    of = are_of;
     fit = subst AllFit (sym p.makes.ops_are) (all_append FitsRowOp difference p.makes.flips
-        (difference_fits s view difference c p.layouts units held y (drafted view suits_itself good) p.makes.in_order p.makes.changes
-        (keys_named c view view (λ key its. refl) difference p.makes.in_order p.makes.changes (width_of s) p.layouts units held y p.makes.gets))
+        (difference_fits s view difference c p.layouts units held y (drafted view suits_itself good) p.makes.in_order p.makes.changes named)
         (flips_fit p.makes.turns.units p.makes.flips p.makes.turns.are_flips));
     fresh = fresh_whole;
     ascend = ascends;
     good = keeps_good;
     exact = keeps_exact;
+    home = λ home rows suits over at_home d sbid named. at_home d sbid (names_kept rows suits over d sbid named);
     owns = owns_units;
   }
 
@@ -363,7 +406,7 @@ module _ (laws : EditLaws) (lengths : LengthLaw) (bytes : ByteLaws) (counts : Co
         length-append (ops_bytes difference) (ops_bytes p.makes.flips),
         difference_short s view difference c p.layouts units held change.ops p.start p.begins (drafted view suits_itself good) p.taken
             (not_above 256 (length change.ops) both.0) (not_above payload_limit (sum_by payload_of change.ops) both.1) p.makes.in_order p.makes.changes
-            (keys_named c view view (λ key its. refl) difference p.makes.in_order p.makes.changes (width_of s) p.layouts units held y p.makes.gets),
+            named,
         flips_size p.makes.turns.units p.makes.flips p.makes.turns.are_flips,
         flips_count p.makes.turns.units p.makes.flips p.makes.turns.are_flips,
       )
@@ -377,7 +420,7 @@ module _ (laws : EditLaws) (lengths : LengthLaw) (bytes : ByteLaws) (counts : Co
 
   takes : PlanTakes space change plan
   takes = record {
-    free = all_listed (Contains (free_units space)) (fresh_units plan) (λ v k. let t = (turned.taken v).0 k in
+    free = all_listed (Contains (free_units space)) (fresh_units plan) (λ v k. let t = (fresh_stand v).0 k in
         subst (Contains (free_units space)) (sym t.2) (is_free_unit t.0 t.1));
     within = omega (
       arith,

@@ -1,18 +1,25 @@
 -- What operations on a collection lead to: what holds of its draft after each of them.
-use Rattle.std.proofs.Common.{◌≡◌, ◌≢◌, ◌⊎◌, inl, inr, ℕ, ◌+◌, ◌<◌, ◌≤◌, true, false, List, [], ◌∷◌, length, Option, Some, None, is_some, refl, sym, ap, subst, ◌∙◌, arith}
+use Rattle.std.proofs.Common.{◌≡◌, ◌≢◌, ◌⊎◌, inl, inr, ℕ, ◌+◌, ◌<◌, ◌≤◌, true, false, List, [], ◌∷◌, length, Contains, Option, Some, None, is_some, refl, sym, ap, subst, ◌∙◌, arith}
 use Rattle.std.specs.Option.{option_map, option_map_or}
 use Rattle.std.specs.FinMap as finite
+use Rattle.std.specs.FinMap.Entries.{where_key}
+use Rattle.std.specs.List.{flat_map}
 use Rattle.std.specs.Ordering.{nat_cmp}
 use Rattle.std.proofs.lemmas.Bool.Decides.{nat_tests}
+use Rattle.std.proofs.lemmas.List.Elements.{Contains-append_cases}
 use Rattle.object_model.specs.declared.op.Op.{Op}
 use Rattle.object_model.specs.declared.op.Op.TheVariants.{MkColl, RmColl, Touch, Write, Zero, Truncate, Remove, SetAttr, RmAttr, RmAttrs, Clone, CloneRange, OmapSet, OmapRm, OmapRmRange, OmapClear, OmapHeader}
 use Rattle.object_model.specs.Prelude.{Object, object_limit}
 use Rattle.unit_fields.specs.Prelude.{IsName}
-use Rattle.row_format.specs.Prelude.{Place}
+use Rattle.row_format.specs.Prelude.{Place, slot}
+use Rattle.row_format.specs.Prelude as format
 use Rattle.store_image.specs.Prelude.{pages_of}
 use Rattle.store_image.proofs.Prelude.{equal_or_not}
+use Rattle.plan_rows.specs.declared.plan.SlotNo.{SlotNo}
 use Rattle.plan_drafts.specs.declared.draft.Draft.{Draft}
-use Rattle.plan_drafts.specs.Prelude.{Edit, edit_of, drafted, pages_taking, EndsBelow, bytes_after, IsInLimits, Layout, or_empty, ValueKey, IsValueKey, value_after, IsOnObject, object_of, is_beyond, or_new, edit_on, object_before, draft_after, CollDraft, with_op, with_ops, IsTakenOn, IsTaken, AreTaken, values_on}
+use Rattle.plan_drafts.specs.Prelude.{Edit, edit_of, drafted, pages_taking, EndsBelow, bytes_after, IsInLimits, Layout, or_empty, ValueKey, IsValueKey, value_after, IsOnObject, object_of, is_beyond, or_new, edit_on, object_before, draft_after, CollDraft, with_op, with_ops, IsTakenOn, IsTaken, AreTaken, values_on, pages_left, slots_released, slots_on, is_touched}
+use Rattle.page_edits.proofs.Entries.{entry_found, where_are}
+use Rattle.page_edits.proofs.Lists.{In, in_contains, contains_in}
 use Rattle.plan_proofs.proofs.Effects.{bytes_of, bytes_on}
 use Rattle.plan_proofs.proofs.Names.{at_here, at_other}
 use Rattle.plan_proofs.proofs.ValuesWritten.{FitsValue, stood_or_written}
@@ -134,11 +141,20 @@ pub record IsObjectReached (layout : Option Layout) (n : ℕ) (x : Draft) : Type
   pub ends : EndsBelow x (pages_of x.size)
   pub most : x.size ≤ object_limit
 
--- What holds of the collection: of each object so; a taking is of one page of one object; and what has an object or a value is there.
+-- a page of an object stood on the slot, as the layouts say
+pub record WasNamed (layouts : List ℕ → Option Layout) (x : SlotNo) : Type 0 where
+  pub object : List ℕ
+  pub named : IsName object
+  pub page : ℕ
+  pub stood : finite.get (or_empty (layouts object)).pages page ≡ Some (slot x.sbid x.index)
+
+-- What holds of the collection: of each object so; a taking is of one page of one object; pages stood on the slots that were left; and what has
+-- an object or a value is there.
 pub record IsReached (layouts : List ℕ → Option Layout) (d : CollDraft) : Type 0 where
   pub objects : (o : List ℕ) (x : Draft) → IsName o → d.layout o ≡ Some x → IsObjectReached (layouts o) d.taken x
   pub once : (o u : List ℕ) (x y : Draft) (p q taking : ℕ) → IsName o → IsName u → d.layout o ≡ Some x → d.layout u ≡ Some y
       → finite.get x.puts p ≡ Some taking → finite.get y.puts q ≡ Some taking → (o ≡ u) × (p ≡ q)
+  pub left : (x : SlotNo) → Contains d.unshared x → WasNamed layouts x
   pub in_coll : (o : List ℕ) → IsName o → is_some (d.layout o) ≡ true → d.there ≡ true
   pub values : (o : List ℕ) (k : ValueKey) (value : List ℕ) → IsName o → IsValueKey k → d.value o k ≡ Some value
       → FitsValue k value × (is_some (d.layout o) ≡ true)
@@ -155,6 +171,27 @@ new_reached layout n = record {
   ends = λ page is. absurd (let t = sym (ap (λ (p : Option Place). is_some p) (finite.get-empty nat_cmp page)) in let u = sym (ap (λ (p : Option ℕ). is_some p) (finite.get-empty nat_cmp page)) in cc);
   most = omega arith;
 }
+
+no_slot : {z : SlotNo} → Contains [] z → ⊥
+no_slot k = omega (arith, k.1)
+
+-- a slot that pages release is that of one of them
+slot_of : (ps : List (ℕ × Place)) (z : SlotNo) → In (flat_map (λ p. slots_released p.1) ps) z → (page : ℕ) × In ps (page, slot z.sbid z.index)
+slot_of [] z is = absurd is
+slot_of ((page, format.own unit csum) ∷ ps) z is = let later = slot_of ps z is in (later.0, inr later.1)
+slot_of ((page, slot sbid index) ∷ ps) z (inl e) = (page, inl (ap (λ (y : SlotNo). (page, slot y.sbid y.index)) e))
+slot_of ((page, slot sbid index) ∷ ps) z (inr behind) = let later = slot_of ps z behind in (later.0, inr later.1)
+
+-- the pages that leave their places stood there
+left_stood : (op : Op) (x : Option Draft) (page : ℕ) (place : Place) → In (pages_left op x) (page, place) → finite.get (or_new x).kept page ≡ Some place
+left_stood (Remove o) x page place is = entry_found (or_new x).kept page place is
+left_stood op x page place is = by (edit_on op x) is
+  where
+    by : (e : Option Edit) → In (option_map_or (λ e. where_key nat_cmp (is_touched e) (finite.entries (or_new x).kept)) e []) (page, place)
+        → finite.get (or_new x).kept page ≡ Some place
+    by None is = absurd is
+    by (Some e) is = ((where_are (is_touched e) (or_new x).kept page place).0
+        (in_contains (where_key nat_cmp (is_touched e) (finite.entries (or_new x).kept)) (page, place) is)).0
 
 -- ---- one operation
 
@@ -329,6 +366,24 @@ module _ (laws : EditLaws) (layouts : List ℕ → Option Layout) (op : Op) (d :
     ]
   ]
 
+  -- ---- slots that pages leave
+
+  left_after : (z : SlotNo) → Contains after.unshared z → WasNamed layouts z
+  left_after z k = elim (Contains-append_cases d.unshared (slots_on op d) z k) [
+    | inl before ↦ r.left z before
+    | inr now ↦
+        let at = slot_of (pages_left op x) z (contains_in (slots_on op d) z now) in
+        let name : IsName o = elim (on_object_or op d taken) [
+          | inl on ↦ on.1.named
+          | inr coll ↦ absurd (elim coll [
+            | inl is ↦ no_slot (subst (λ p. Contains (slots_on p d) z) is now)
+            | inr is ↦ no_slot (subst (λ p. Contains (slots_on p d) z) is now)
+          ])
+        ] in
+        let stood = left_stood op x at.0 (slot z.sbid z.index) at.1 in
+        record { object = o; named = name; page = at.0; stood = (x_reached name).kept at.0 (slot z.sbid z.index) stood }
+  ]
+
   -- ---- what is there
 
   there_or_bare : (after.there ≡ true) ⊎ ((u : List ℕ) → IsName u → after.layout u ≡ None)
@@ -389,7 +444,7 @@ module _ (laws : EditLaws) (layouts : List ℕ → Option Layout) (op : Op) (d :
   ]
 
   pub reached_after : IsReached layouts after
-  reached_after = record { objects = objects_after; once = once_after; in_coll = in_coll_after; values = values_after }
+  reached_after = record { objects = objects_after; once = once_after; left = left_after; in_coll = in_coll_after; values = values_after }
 
 -- ---- operations
 

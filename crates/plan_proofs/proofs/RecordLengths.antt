@@ -25,17 +25,17 @@ use Rattle.object_model.specs.Prelude.{is_same, payload_of, payload_of_pairs, ob
 use Rattle.unit_fields.specs.Prelude.{IsName}
 use Rattle.row_format.specs.Prelude.{coll_key, onode_key, shard_key, attr_key, header_key, omap_key, Extent, Place}
 use Rattle.store_image.specs.Prelude.{HasKey}
-use Rattle.blob_map.specs.Prelude.{with_pages}
-use Rattle.plan_drafts.specs.Prelude.{Held, Changes, KeysAscend, Layout, HasLayout, or_empty, size_at, GetsShards, stay, cut, extents_at, ValueKey, attribute, header, pair, value_key, value_in, is_among, value_after, object_of, CollDraft, with_op, with_ops, draft_after, IsTaken, AreTaken, draft_of, Begins, laid, laid_at, place_put, IsKeyOfColl, values_on}
+use Rattle.blob_map.specs.Prelude.{FitsPlace, with_pages}
+use Rattle.plan_drafts.specs.Prelude.{Held, Changes, KeysAscend, Layout, HasLayout, or_empty, size_at, GetsShards, stay, cut, extents_at, ValueKey, attribute, header, pair, value_key, value_in, is_among, value_after, object_of, CollDraft, with_op, with_ops, draft_after, IsTaken, AreTaken, draft_of, Begins, laid, laid_at, place_put, IsKeyOfColl, IsKeyOfDraft, values_on}
 use Rattle.extent_shards.specs.Prelude.{shards_of, shard_limit, first_of}
 use Rattle.extent_shards.proofs.Openings.{IsOneOf, at_is_one}
 use Rattle.plan_proofs.proofs.Difference.{SaysAfter, said_after, less_apart}
-use Rattle.plan_proofs.proofs.DraftRows.{AreDrafted, now_most, now_good, now_own}
+use Rattle.plan_proofs.proofs.Drafted.{AreDrafted}
+use Rattle.plan_proofs.proofs.DraftRows.{now_most, now_good, now_fits}
 use Rattle.object_rows.proofs.GoodPages.{IsGoodPage}
 use Rattle.plan_proofs.proofs.Lengths.{few_shards}
-use Rattle.plan_proofs.proofs.NoSlots.{IsOwn}
 use Rattle.plan_proofs.proofs.Maps.{layout_most, layout_fit, layout_ascend, layout_within}
-use Rattle.plan_proofs.proofs.Fits.{key_fits, cut_at, value_is_short}
+use Rattle.plan_proofs.proofs.Fits.{key_fits, cut_at, value_is_short, blob_long}
 use Rattle.plan_proofs.proofs.Names.{same_is}
 
 -- ---- keys in lists
@@ -77,9 +77,15 @@ without k (x ∷ xs) (inr later) =
 
 -- ---- what counts
 
--- the operation sets one of these keys, in few bytes, or drops a row that is there
+-- the value takes the place of one that is as long
+record TakesPlace (olds : Rows) (key value : List ℕ) : Type 0 where
+  old : List ℕ
+  stood : finite.get olds key ≡ Some old
+  long : length value ≡ length old
+
+-- the operation sets one of these keys, in few bytes, or sets or drops a row that is there, with a value that is as long
 abbrev IsCounted : List (List ℕ) → Rows → RowOp → Type 0
-IsCounted keys olds (Set key value) = IsIn key keys × (length (op_bytes (Set key value)) ≤ 66566)
+IsCounted keys olds (Set key value) = (IsIn key keys × (length (op_bytes (Set key value)) ≤ 66566)) ⊎ TakesPlace olds key value
 IsCounted keys olds (Drop key) = HasKey olds key
 IsCounted keys olds (Flip key mask) = ⊥
 
@@ -97,15 +103,23 @@ module _ (key : List ℕ) where
       → AllByRecursion (λ later. byte_order key (key_of later) ≡ Less) ops → AllByRecursion (IsCounted keys olds) ops
       → AllByRecursion (IsCounted w.rest olds) ops
   without_key keys w olds [] behind all = tt
-  without_key keys w olds (Set k v ∷ ops) behind all =
-      ((w.others k (less_apart key k behind.0) all.0.0, all.0.1), without_key keys w olds ops behind.1 all.1)
+  without_key keys w olds (Set k v ∷ ops) behind all = (
+    elim all.0 [ inl new ↦ inl (w.others k (less_apart key k behind.0) new.0, new.1) | inr was ↦ inr was ],
+    without_key keys w olds ops behind.1 all.1,
+  )
   without_key keys w olds (Drop k ∷ ops) behind all = (all.0, without_key keys w olds ops behind.1 all.1)
   without_key keys w olds (Flip k m ∷ ops) behind all = absurd all.0
 
   without_row : (keys : List (List ℕ)) (olds : Rows) (ops : List RowOp) → AllByRecursion (λ later. byte_order key (key_of later) ≡ Less) ops
       → AllByRecursion (IsCounted keys olds) ops → AllByRecursion (IsCounted keys (finite.remove olds key)) ops
   without_row keys olds [] behind all = tt
-  without_row keys olds (Set k v ∷ ops) behind all = (all.0, without_row keys olds ops behind.1 all.1)
+  without_row keys olds (Set k v ∷ ops) behind all = (
+    elim all.0 [
+      | inl new ↦ inl new
+      | inr was ↦ inr (record { old = was.old; stood = get-remove_other olds key k (less_apart key k behind.0) ∙ was.stood; long = was.long })
+    ],
+    without_row keys olds ops behind.1 all.1,
+  )
   without_row keys olds (Drop k ∷ ops) behind all =
       (ap is_some (get-remove_other olds key k (less_apart key k behind.0)) ∙ all.0, without_row keys olds ops behind.1 all.1)
   without_row keys olds (Flip k m ∷ ops) behind all = absurd all.0
@@ -119,15 +133,25 @@ length-drop_op key = omega (arith, length-append (to_le_bytes w16 (length key)) 
 counted : (ops : List RowOp) (keys : List (List ℕ)) (olds : Rows) → KeysAscend ops → AllByRecursion (IsCounted keys olds) ops
     → length (ops_bytes ops) ≤ 66566 * length keys + rows_size olds
 counted [] keys olds order all = omega arith
-counted (Set key value ∷ ops) keys olds order all =
-    let w = without key keys all.0.0 in
-    omega (
-      arith,
-      length-append (op_bytes (Set key value)) (ops_bytes ops),
-      all.0.1,
-      w.fewer,
-      counted ops w.rest olds order.1 (without_key key keys w olds ops order.0 all.1),
-    )
+counted (Set key value ∷ ops) keys olds order all = elim all.0 [
+  | inl new ↦
+      let w = without key keys new.0 in
+      omega (
+        arith,
+        length-append (op_bytes (Set key value)) (ops_bytes ops),
+        new.1,
+        w.fewer,
+        counted ops w.rest olds order.1 (without_key key keys w olds ops order.0 all.1),
+      )
+  | inr was ↦ omega (
+    arith,
+    length-append (op_bytes (Set key value)) (ops_bytes ops),
+    length-set_op key value,
+    was.long,
+    size_without olds key was.old was.stood,
+    counted ops keys (finite.remove olds key) order.1 (without_row key keys olds ops order.0 all.1),
+  )
+]
 counted (Drop key ∷ ops) keys olds order all =
     let found = value_at (finite.get olds key) all.0 in
     omega (
@@ -301,8 +325,8 @@ module _ (s : Super) (rows : Rows) (ops : List RowOp) (c : List ℕ) (layouts : 
     arith,
     length-map (shards_of (width_of s) (Some shard_limit) (extents_at (laid_at units held y o))) first_of,
     few_shards (width_of s) (Some shard_limit) (extents_at (laid_at units held y o)) (unwrap_or (size_at (laid_at units held y o)) 0)
-        (layout_most s (laid_at units held y o) most a.units_most good its) (layout_ascend s (laid_at units held y o) most a.units_most good its)
-        (layout_within s (laid_at units held y o) most a.units_most good its) (layout_fit s (laid_at units held y o) most a.units_most good its),
+        (layout_most s (laid_at units held y o) most good its) (layout_ascend s (laid_at units held y o) most good its)
+        (layout_within s (laid_at units held y o) most good its) (layout_fit s (laid_at units held y o) most good its),
   ))
     where
       most : (or_empty (laid_at units held y o)).size ≤ object_limit
@@ -312,8 +336,8 @@ module _ (s : Super) (rows : Rows) (ops : List RowOp) (c : List ℕ) (layouts : 
           → IsGoodPage s (or_empty (laid_at units held y o)).size page place
       good page place is = now_good s rows (rows_after rows ops) c layouts units held y a o name page place is
 
-      its : (page : ℕ) (place : Place) → finite.get (or_empty (laid_at units held y o)).pages page ≡ Some place → IsOwn place
-      its page place is = now_own s rows (rows_after rows ops) c layouts units held y a o name page place is
+      its : (page : ℕ) (place : Place) → finite.get (or_empty (laid_at units held y o)).pages page ≡ Some place → FitsPlace (width_of s) place
+      its page place is = now_fits s rows (rows_after rows ops) c layouts units held y a o name page place is
 
   is_opening : (shards : List (List Extent)) (es : List Extent) → IsOneOf shards es → (o : List ℕ)
       → IsIn (shard_key c o (first_of es)) (map (shard_key c o) (map first_of shards))
@@ -369,21 +393,24 @@ module _ (s : Super) (rows : Rows) (ops : List RowOp) (c : List ℕ) (layouts : 
   short_op : (key value : List ℕ) → IsKey key → length value ≤ 65535 → length (op_bytes (Set key value)) ≤ 66566
   short_op key value fits short = omega (arith, length-set_op key value, fits.short, short)
 
-  op_counted : (op : RowOp) → IsKeyOfColl c (key_of op) → Changes rows op → SaysAfter (rows_after rows ops) op → IsCounted keys rows op
-  op_counted (Set key value) its changes said = (
-    set_in key value its said changes,
-    short_op key value (key_fits s rows ops c layouts units held y a key its) (value_is_short s rows ops c layouts units held y a key value its said changes),
+  op_counted : (op : RowOp) → IsKeyOfDraft c y (key_of op) → Changes rows op → SaysAfter (rows_after rows ops) op → IsCounted keys rows op
+  op_counted (Set key value) (inl mine) changes said = inl (
+    set_in key value mine said changes,
+    short_op key value (key_fits s rows ops c layouts units held y a key (inl mine))
+        (value_is_short s rows ops c layouts units held y a key value (inl mine) said changes),
   )
+  op_counted (Set key value) (inr of) changes said =
+      let was = blob_long s rows ops c layouts units held y a key value of said in inr (record { old = was.old; stood = was.stood; long = was.long })
   op_counted (Drop key) its changes said = changes
   op_counted (Flip key mask) its changes said = absurd changes
 
-  all_counted : (xs : List RowOp) → AllByRecursion (λ op. IsKeyOfColl c (key_of op)) xs → AllByRecursion (Changes rows) xs
+  all_counted : (xs : List RowOp) → AllByRecursion (λ op. IsKeyOfDraft c y (key_of op)) xs → AllByRecursion (Changes rows) xs
       → AllByRecursion (SaysAfter (rows_after rows ops)) xs → AllByRecursion (IsCounted keys rows) xs
   all_counted [] its changes said = tt
   all_counted (op ∷ xs) its changes said = (op_counted op its.0 changes.0 said.0, all_counted xs its.1 changes.1 said.1)
 
   pub difference_short : AreTaken todo start → length todo ≤ 256 → sum_by payload_of todo ≤ 1048576 → KeysAscend ops → AllByRecursion (Changes rows) ops
-      → AllByRecursion (λ op. IsKeyOfColl c (key_of op)) ops → length (ops_bytes ops) ≤ 628229738502 + rows_size rows
+      → AllByRecursion (λ op. IsKeyOfDraft c y (key_of op)) ops → length (ops_bytes ops) ≤ 628229738502 + rows_size rows
   difference_short taken few payload order changes its = omega (
     arith,
     counted ops keys rows order (all_counted ops its changes (said_after rows ops order)),

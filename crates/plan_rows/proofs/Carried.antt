@@ -29,5 +29,6 @@ module _ (s t : Super) (units : s.units ≡ t.units) (half : s.half ≡ t.half) 
     ascend = keeps.ascend;
     good = λ rows suits is. none_bad_too s t half units _ (keeps.good rows suits (back rows is));
     exact = λ rows suits is. keeps.exact rows suits (back rows is);
+    home = λ home rows suits is. keeps.home home rows suits (back rows is);
     owns = λ rows suits is. keeps.owns rows suits (back rows is);
   }

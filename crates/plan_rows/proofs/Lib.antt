@@ -1,4 +1,5 @@
 pub mod Alike
+pub mod Homes
 pub mod Apart
 pub mod Agreeing
 pub mod OnData

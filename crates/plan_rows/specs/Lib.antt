@@ -1,6 +1,7 @@
 pub mod Difference
 pub mod Edits
 pub mod Values
+pub mod Blobs
 pub mod Layouts
 pub mod Plans
 pub mod Asks

@@ -1,5 +1,5 @@
 -- Rows by the collections that they are of, and operations on rows of some collections.
-use Rattle.std.specs.Prelude.{◌≡◌, ◌⊎◌, ℕ, true, List, ◌++◌}
+use Rattle.std.specs.Prelude.{◌≡◌, ◌⊎◌, ℕ, ◌<◌, ◌^◌, true, List, ◌++◌}
 use Rattle.std.specs.List.{AllByRecursion}
 use Rattle.std.specs.FinMap as finite
 use Rattle.unit_fields.specs.Prelude.{IsCollName}
@@ -7,8 +7,8 @@ use Rattle.unit_fields.specs.declared.width.Width.{Width}
 use Rattle.meta_rows.specs.Prelude.{Rows, key_of}
 use Rattle.meta_rows.specs.declared.row_op.RowOp.{RowOp}
 use Rattle.object_model.specs.Prelude.{is_named}
-use Rattle.row_format.specs.Prelude.{object_key, coll_key}
-use Rattle.store_image.specs.Prelude.{page_of, Owns}
+use Rattle.row_format.specs.Prelude.{object_key, coll_key, shared_key}
+use Rattle.store_image.specs.Prelude.{IsNamedBy}
 use Rattle.plan_rows.specs.Layouts.{TurnsBits}
 
 -- the kinds of an object's rows: its onode and its shards, its attributes, its header and omap
@@ -25,27 +25,41 @@ pub record IsKeyOfSome (names : List (List ℕ)) (key : List ℕ) : Type 0 where
   pub among : is_named coll names ≡ true
   pub of : IsKeyIn coll key
 
--- the rows of the collections are the same in both
-pub record AgreeOn (names : List (List ℕ)) (rows other : Rows) : Type 0 where
-  pub own : (key : List ℕ) → IsKeyOfSome names key → finite.get rows key ≡ finite.get other key
+-- ---- shared blobs
 
--- Operations on rows of these collections, and behind them those that turn the bits of the units that are taken and of those that are released.
-pub record AreOf (names : List (List ℕ)) (taken released : List ℕ) (ops : List RowOp) : Type 0 where
+-- Each blob has a collection that is its home: no other's shards name it.
+abbrev pub AreAtHome : Width → (ℕ → List ℕ) → Rows → Type 0
+AreAtHome w home rows = (c : List ℕ) (sbid : ℕ) → IsNamedBy w rows c sbid → home sbid ≡ c
+
+-- so it is of those that shards of the collections name
+abbrev pub AreAtHomeIn : Width → (ℕ → List ℕ) → List (List ℕ) → Rows → Type 0
+AreAtHomeIn w home names rows = (c : List ℕ) (sbid : ℕ) → is_named c names ≡ true → IsNamedBy w rows c sbid → home sbid ≡ c
+
+-- the key is of the row of a blob whose home is one of the collections
+pub record IsKeyOfBlob (home : ℕ → List ℕ) (names : List (List ℕ)) (key : List ℕ) : Type 0 where
+  pub sbid : ℕ
+  pub small : sbid < 2 ^ 64
+  pub among : is_named (home sbid) names ≡ true
+  pub is : key ≡ shared_key sbid
+
+-- ---- rows and operations
+
+-- the rows of the collections, and those of the blobs that their shards name, are the same in both
+pub record AgreeOn (w : Width) (names : List (List ℕ)) (rows other : Rows) : Type 0 where
+  pub own : (key : List ℕ) → IsKeyOfSome names key → finite.get rows key ≡ finite.get other key
+  pub blobs : (c : List ℕ) (sbid : ℕ) → is_named c names ≡ true → IsNamedBy w rows c sbid
+      → finite.get rows (shared_key sbid) ≡ finite.get other (shared_key sbid)
+
+-- Operations on rows of these collections and of blobs at home there, and behind them those that turn the bits of the units that are taken and
+-- of those that are released.
+pub record AreOf (home : ℕ → List ℕ) (names : List (List ℕ)) (taken released : List ℕ) (ops : List RowOp) : Type 0 where
   pub named : AllByRecursion IsCollName names
   pub own : List RowOp
   pub flips : List RowOp
   pub is : ops ≡ own ++ flips
-  pub keys : AllByRecursion (λ op. IsKeyOfSome names (key_of op)) own
+  pub keys : AllByRecursion (λ op. IsKeyOfSome names (key_of op) ⊎ IsKeyOfBlob home names (key_of op)) own
   pub turns : TurnsBits taken released flips
 
 -- no collection is in both
 abbrev pub HaveNoneInCommon : List (List ℕ) → List (List ℕ) → Type 0
 HaveNoneInCommon names others = (c : List ℕ) → is_named c names ≡ true → is_named c others ≡ true → ⊥
-
--- a page of an object in one of the collections stands on the unit
-pub record IsOwnedBy (w : Width) (names : List (List ℕ)) (rows : Rows) (unit : ℕ) : Type 0 where
-  pub coll : List ℕ
-  pub among : is_named coll names ≡ true
-  pub object : List ℕ
-  pub page : ℕ
-  pub owns : Owns w rows (page_of coll object page) unit

@@ -2,37 +2,46 @@
 ghost use Rattle.std.specs.Prelude.{◌≡◌, ◌↔◌, ◌⊎◌, ℕ, ◌<◌, ◌^◌, List, Contains};
 ghost use Rattle.std.specs.List.{AllByRecursion};
 ghost use Rattle.unit_fields.specs.Prelude.{IsCollName};
+ghost use Rattle.unit_fields.specs.declared.width.Width.{Width};
 ghost use Rattle.meta_rows.specs.Prelude.{Rows, rows_after};
 ghost use Rattle.meta_rows.specs.declared.row_op.RowOp.{RowOp};
 ghost use Rattle.meta_log.specs.declared.slot.Super.{Super};
-ghost use Rattle.store_image.specs.Prelude.{IsMarked};
+ghost use Rattle.meta_log.specs.Prelude.{width_of};
+ghost use Rattle.store_image.specs.Prelude.{IsMarked, NoBadRow};
 ghost use Rattle.bitmap_freelist.specs.Bitmap.{AreBitmapRows, ExactlyOne};
 ghost use Rattle.plan_rows.specs.declared.plan.Plan.{Plan};
-ghost use Rattle.plan_rows.specs.Names.{AgreeOn, AreOf, HaveNoneInCommon};
+ghost use Rattle.plan_rows.specs.Names.{AreAtHome, AgreeOn, AreOf, HaveNoneInCommon};
 ghost use Rattle.plan_rows.specs.Keeps.{IsGood, PlanKeeps};
 
-/// Operations on rows of some collections leave the rows of others, and change places with operations on those. The rows of the bitmap stay rows
-/// of it, and exactly the bits of the units that are taken and of those that are released are turned.
+/// Where no row is bad, each blob that shards name has a home.
+pub fn each_blob_has_a_home()
+    ensures { (s : Super) (rows : Rows) → NoBadRow s rows → (home : ℕ → List ℕ) × AreAtHome (width_of s) home rows }
+{}
+
+/// Operations on rows of some collections and of the blobs at home there leave those of others, and change places with operations on those. The
+/// rows of the bitmap stay rows of it, and exactly the bits of the units that are taken and of those that are released are turned.
 pub fn collections_are_apart()
-    ensures kept { (names others : List (List ℕ)) (taken released : List ℕ) (rows : Rows) (ops : List RowOp) → AreOf names taken released ops
-        → AllByRecursion IsCollName others → HaveNoneInCommon names others → AgreeOn others (rows_after rows ops) rows }
-    ensures order { (names others : List (List ℕ)) (taken released other_taken other_released : List ℕ) (rows : Rows) (ops more : List RowOp)
-        → AreOf names taken released ops → AreOf others other_taken other_released more → HaveNoneInCommon names others → AreBitmapRows rows
+    ensures kept { (w : Width) (home : ℕ → List ℕ) (names others : List (List ℕ)) (taken released : List ℕ) (rows : Rows) (ops : List RowOp)
+        → AreAtHome w home rows → AreOf home names taken released ops → AllByRecursion IsCollName others → HaveNoneInCommon names others
+        → AgreeOn w others (rows_after rows ops) rows }
+    ensures order { (home : ℕ → List ℕ) (names others : List (List ℕ)) (taken released other_taken other_released : List ℕ) (rows : Rows)
+        (ops more : List RowOp) → AreOf home names taken released ops → AreOf home others other_taken other_released more
+        → HaveNoneInCommon names others → AreBitmapRows rows
         → rows_after (rows_after rows ops) more ≡ rows_after (rows_after rows more) ops }
-    ensures table { (names : List (List ℕ)) (taken released : List ℕ) (rows : Rows) (ops : List RowOp) → AreOf names taken released ops
-        → AreBitmapRows rows → AreBitmapRows (rows_after rows ops) }
-    ensures bits { (names : List (List ℕ)) (taken released : List ℕ) (rows : Rows) (ops : List RowOp) → AreOf names taken released ops
-        → (unit : ℕ) → unit < 2 ^ 32
+    ensures table { (home : ℕ → List ℕ) (names : List (List ℕ)) (taken released : List ℕ) (rows : Rows) (ops : List RowOp)
+        → AreOf home names taken released ops → AreBitmapRows rows → AreBitmapRows (rows_after rows ops) }
+    ensures bits { (home : ℕ → List ℕ) (names : List (List ℕ)) (taken released : List ℕ) (rows : Rows) (ops : List RowOp)
+        → AreOf home names taken released ops → (unit : ℕ) → unit < 2 ^ 32
         → IsMarked (rows_after rows ops) unit ↔ ExactlyOne (IsMarked rows unit) (Contains taken unit ⊎ Contains released unit) }
 {}
 
 /// To agree on collections is an equivalence, and a plan over rows is one over all that agree with them on its collections.
 pub fn agreement()
-    ensures itself { (names : List (List ℕ)) (rows : Rows) → AgreeOn names rows rows }
-    ensures back { (names : List (List ℕ)) (rows other : Rows) → AgreeOn names rows other → AgreeOn names other rows }
-    ensures onward { (names : List (List ℕ)) (rows other later : Rows) → AgreeOn names rows other → AgreeOn names other later
-        → AgreeOn names rows later }
-    ensures plans { (s : Super) (names : List (List ℕ)) (view other : Rows) (plan : Plan) → AgreeOn names view other
+    ensures itself { (w : Width) (names : List (List ℕ)) (rows : Rows) → AgreeOn w names rows rows }
+    ensures back { (w : Width) (names : List (List ℕ)) (rows other : Rows) → AgreeOn w names rows other → AgreeOn w names other rows }
+    ensures onward { (w : Width) (names : List (List ℕ)) (rows other later : Rows) → AgreeOn w names rows other → AgreeOn w names other later
+        → AgreeOn w names rows later }
+    ensures plans { (s : Super) (names : List (List ℕ)) (view other : Rows) (plan : Plan) → AgreeOn (width_of s) names view other
         → PlanKeeps s names view plan → PlanKeeps s names other plan }
 {}
 

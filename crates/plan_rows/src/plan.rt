@@ -32,6 +32,15 @@ impl Model for PageUnit {
     ghost inverse = { λ p. record { unit = p.unit; csum = p.csum } };
 }
 
+/// A slot of a shared blob, as pages name it.
+#[derive(Clone, Copy)]
+pub struct SlotNo {
+    /// The blob's number.
+    pub sbid: u64,
+    /// Which of its slots, from 0 on.
+    pub index: u16,
+}
+
 /// A unit whose old bytes are in a page that a transaction changes in part.
 #[derive(Drop)]
 pub struct ReadUnit {

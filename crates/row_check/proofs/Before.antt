@@ -9,7 +9,7 @@ use Rattle.meta_rows.specs.Prelude.{Rows}
 use Rattle.meta_log.specs.declared.slot.Super.{Super}
 use Rattle.meta_log.specs.Prelude.{width_of}
 use Rattle.row_format.specs.Prelude.{coll_key, onode_key, Extent, page_end, onode, ExtentsAscend}
-use Rattle.store_image.specs.Prelude.{HasKey, HasRow, HasOnode, pages_of, HasObject, IsInPlace, IsShardInPlace, IsOnData}
+use Rattle.store_image.specs.Prelude.{HasKey, HasRow, HasOnode, pages_of, HasObject, IsInPlace, IsShardInPlace, IsOnData, HasSlots}
 use Rattle.onode_codec.specs.Reading.{SpellsOnode}
 use Rattle.onode_codec.proofs.Again.{same_onode}
 use Rattle.row_reading.specs.declared.row.Row.{Row}
@@ -100,10 +100,11 @@ of_onode (Some (read.Onode d u own)) c o size is = (is.0, is.1)
 -- a shard behind its object's onode, which is in its place
 pub behind_onode : (s : Super) (rows : Rows) (p : Passed) (c o : List ℕ) (size : ℕ) (es : List Extent) → (IsPlacedIn p c → HasKey rows (coll_key c))
     → p.in_place ≡ true → IsOnodeOf p.last c o size → HasOnode rows c o size → ExtentsAscend es → AllByRecursion (λ e. IsOnData s e.body) es
+    → AllByRecursion (λ e. HasSlots (width_of s) rows c e.body) es
     → AllByRecursion (λ e. page_end e ≤ pages_of size) es ↔ ShardStands s rows c o es
-behind_onode s rows p c o size es coll placed is has up on =
+behind_onode s rows p c o size es coll placed is has up on slots =
     let by = within_size rows c o size es has in (
-      λ all. record { ascend = up; on_data = on; has_collection = coll (o, (placed, of_onode p.last c o size is)); within_onode = by.0 all },
+      λ all. record { ascend = up; on_data = on; has_collection = coll (o, (placed, of_onode p.last c o size is)); within_onode = by.0 all; slots = slots },
       λ stands. by.1 stands.within_onode,
     )
 

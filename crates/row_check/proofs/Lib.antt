@@ -1,3 +1,10 @@
+pub mod SlotOrder
+pub mod BlobList
+pub mod Counted
+pub mod Naming
+pub mod SlotUnits
+pub mod BlobRows
+pub mod Named
 pub mod Walk
 pub mod Shards
 pub mod Ends

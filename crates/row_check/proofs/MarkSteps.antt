@@ -1,18 +1,19 @@
 -- The steps of marking, as the loops see them.
-use Rattle.std.proofs.Common.{◌≡◌, ◌≢◌, ℕ, zero, suc, ◌+◌, ◌<◌, ◌≤◌, List, [], ◌∷◌, ◌++◌, length, drop, refl, sym, ap, subst, ◌∙◌, arith}
+use Rattle.std.proofs.Common.{◌≡◌, ◌≢◌, ℕ, zero, suc, true, false, cond, ◌+◌, ◌<◌, ◌≤◌, List, [], ◌∷◌, ◌++◌, length, drop, refl, sym, ap, subst, ◌∙◌, arith}
 use Rattle.std.specs.List.{flat_map, AllByRecursion}
 use Rattle.std.proofs.lemmas.List.{length-append, length-set, drop_at}
 use Rattle.std.proofs.lemmas.List.Concat.{flat_map-cons}
 use Rattle.unit_fields.specs.Prelude.{ReadsBytes, bytes_of}
 use Rattle.unit_fields.specs.declared.width.Width.{Width}
-use Rattle.row_format.specs.Prelude.{Body, private, shared, Extent, extent_bytes, FitsExtent, csum_bytes}
+use Rattle.row_format.specs.Prelude.{Body, private, shared, Extent, extent_bytes, FitsExtent, csum_bytes, Slot}
+use Rattle.std.specs.Prelude.{nat_lt}
 use Rattle.onode_codec.specs.declared.extent.Head.{Head}
 use Rattle.onode_codec.specs.declared.extent.Start.{Start}
 use Rattle.onode_codec.specs.declared.extent.Start.TheVariants.{Unit as OnUnit, Slot as OnSlot}
 use Rattle.onode_codec.specs.Reading.{ReadsHead, SpellExtents}
 use Rattle.onode_codec.proofs.Again.{same_extents}
 use Rattle.onode_codec.proofs.ExtentReading.{head_front, length-csums, some_bytes, spelled_behind}
-use Rattle.row_check.specs.Marks.{Marks, run_marked, body_marked, extents_marked, EndsBy, AllEndBy, SpellExtentsBelow, BeginsBelow, MarksExtent}
+use Rattle.row_check.specs.Marks.{Marks, one_page_more, run_marked, body_marked, extents_marked, slot_marked, slots_marked, EndsBy, AllEndBy, SpellExtentsBelow, BeginsBelow, MarksExtent}
 
 pub length-run : (m : Marks) (first n : ℕ) → length (run_marked m first n).owned ≡ length m.owned
 length-run m first zero = refl
@@ -21,6 +22,23 @@ length-run m first (suc n) = length-set _ (first + n) _ ∙ length-run m first n
 length-body : (m : Marks) (b : Body) → length (body_marked m b).owned ≡ length m.owned
 length-body m (private unit csums) = length-run m unit (length csums)
 length-body m (shared sbid first count) = refl
+
+-- ---- slots one behind the other
+
+length-slot : (m : Marks) (unit : ℕ) (x : Slot) → length (slot_marked m unit x).owned ≡ length m.owned
+length-slot m unit x = elim (nat_lt 0 x.count) as (λ b. length (cond b (one_page_more m unit) m).owned ≡ length m.owned) [
+  | true ↦ length-set m.owned unit true
+  | false ↦ refl
+]
+
+pub length-slots : (xs : List Slot) (m : Marks) (unit : ℕ) → length (slots_marked m unit xs).owned ≡ length m.owned
+length-slots [] m unit = refl
+length-slots (x ∷ xs) m unit = length-slots xs (slot_marked m unit x) (suc unit) ∙ length-slot m unit x
+
+pub slots_push : (xs : List Slot) (m : Marks) (unit at : ℕ) (x : Slot) → at ≡ unit + length xs
+    → slot_marked (slots_marked m unit xs) at x ≡ slots_marked m unit (xs ++ x ∷ [])
+slots_push [] m unit at x is = ap (λ n. slot_marked m n x) (omega (arith, is))
+slots_push (y ∷ xs) m unit at x is = slots_push xs (slot_marked m unit y) (suc unit) at x (omega (arith, is))
 
 -- ---- one extent
 

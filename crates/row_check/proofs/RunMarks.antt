@@ -1,14 +1,14 @@
 -- The marks of consecutive pages, of extents and of rows.
-use Rattle.std.proofs.Common.{◌≡◌, ◌⊎◌, ◌↔◌, inl, inr, ℕ, zero, suc, ◌+◌, ◌-◌, ◌<◌, ◌≤◌, Bool, true, false, cond, List, [], ◌∷◌, length, Option, Some, refl, sym, ap, ◌∙◌, arith}
-use Rattle.std.specs.Prelude.{nat_le, nat_lt, ◌&&◌, slice_index}
+use Rattle.std.proofs.Common.{◌≡◌, ◌⊎◌, ◌↔◌, inl, inr, ℕ, zero, suc, ◌+◌, ◌-◌, ◌<◌, ◌≤◌, Bool, true, false, cond, List, [], ◌∷◌, length, Option, Some, refl, sym, ap, subst, ◌∙◌, arith}
+use Rattle.std.specs.Prelude.{nat_le, nat_lt, ◌&&◌, slice_index, slice_get}
 use Rattle.std.specs.List.{AllByRecursion}
 use Rattle.std.proofs.lemmas.Bool.{cases_Bool, cases_lt, ltb-true, leb-true, lt-ltb, le-leb}
 use Rattle.std.proofs.lemmas.List.{length-set}
-use Rattle.row_format.specs.Prelude.{Body, private, shared, page_count, Extent, page_end, ExtentsAscend, Place, own, slot, place_in, place_of, BeginsAt}
+use Rattle.row_format.specs.Prelude.{Body, private, shared, page_count, Extent, page_end, ExtentsAscend, Place, own, slot, place_in, place_of, BeginsAt, Slot}
 use Rattle.row_format.specs.Row as format
 use Rattle.row_format.proofs.Prelude.{is_shard_or_none}
-use Rattle.store_image.specs.Prelude.{Owner, page_of}
-use Rattle.row_check.specs.Marks.{Marks, run_marked, body_marked, extents_marked, row_marked, EndsBy, AllEndBy, RowEndsBy}
+use Rattle.store_image.specs.Prelude.{Owner, page_of, slot_of}
+use Rattle.row_check.specs.Marks.{Marks, one_page_more, run_marked, body_marked, extents_marked, slot_marked, slots_marked, BlobRow, no_blob, blob_in, row_marked, EndsBy, AllEndBy, RowEndsBy}
 use Rattle.row_check.proofs.OneMark.{Tells, HasUnits, tells_same, one_more_tells}
 
 -- ---- how many units have marks
@@ -27,8 +27,23 @@ extents_units : (units : ℕ) (es : List Extent) (m : Marks) → HasUnits units 
 extents_units units [] m has = has
 extents_units units (e ∷ es) m has = extents_units units es (body_marked m e.body) (body_units units m e.body has)
 
+one_units : (units : ℕ) (m : Marks) (unit : ℕ) → HasUnits units m → HasUnits units (one_page_more m unit)
+one_units units m unit has = record { owned = length-set _ unit _ ∙ has.owned; shared = length-set _ unit _ ∙ has.shared }
+
+pub slot_units : (units : ℕ) (m : Marks) (unit : ℕ) (x : Slot) → HasUnits units m → HasUnits units (slot_marked m unit x)
+slot_units units m unit x has = elim (nat_lt 0 x.count) as (λ b. HasUnits units (cond b (one_page_more m unit) m)) [
+  | true ↦ one_units units m unit has
+  | false ↦ has
+]
+
+pub slots_units : (units : ℕ) (xs : List Slot) (m : Marks) (unit : ℕ) → HasUnits units m → HasUnits units (slots_marked m unit xs)
+slots_units units [] m unit has = has
+slots_units units (x ∷ xs) m unit has = slots_units units xs (slot_marked m unit x) (suc unit) (slot_units units m unit x has)
+
 pub row_units : (units : ℕ) (row : format.Row) (m : Marks) → HasUnits units m → HasUnits units (row_marked m row)
-row_units units row = extents_units units (format.shard_in row).extents
+row_units units row m has =
+    slots_units units (blob_in row).slots (extents_marked m (format.shard_in row).extents) (blob_in row).first
+    (extents_units units (format.shard_in row).extents m has)
 
 -- ---- consecutive pages
 
@@ -256,22 +271,146 @@ module _ (c o : List ℕ) where
         ],
       )
 
+-- ---- slots
+
+module _ (sbid : ℕ) where
+  -- a slot of these that pages name, the first of which has this number and is on this unit, owns the unit
+  pub record SlotsOwn (from first : ℕ) (xs : List Slot) (a : Owner) (v : ℕ) : Type 0 where
+    pub k : ℕ
+    pub is : Slot
+    pub there : slice_get xs k ≡ Some is
+    pub named : 0 < is.count
+    pub owner_is : a ≡ slot_of sbid (from + k)
+    pub unit_is : v ≡ first + k
+
+  abbrev IsFirst : ℕ → ℕ → Slot → Owner → ℕ → Type 0
+  IsFirst from first x a v = (0 < x.count) × ((a ≡ slot_of sbid from) × (v ≡ first))
+
+  same_slot : (i j : ℕ) → slot_of sbid i ≡ slot_of sbid j → i ≡ j
+  same_slot i j e = cc
+
+  first_owns : (from first : ℕ) (x : Slot) (xs : List Slot) (a : Owner) (v : ℕ) → IsFirst from first x a v → SlotsOwn from first (x ∷ xs) a v
+  first_owns from first x xs a v is = record {
+    k = 0;
+    is = x;
+    there = refl;
+    named = is.0;
+    owner_is = is.1.0 ∙ ap (slot_of sbid) (omega arith);
+    unit_is = omega (arith, is.1.1);
+  }
+
+  later_owns : (from first : ℕ) (x : Slot) (xs : List Slot) (a : Owner) (v : ℕ) → SlotsOwn (suc from) (suc first) xs a v → SlotsOwn from first (x ∷ xs) a v
+  later_owns from first x xs a v o = record {
+    k = suc o.k;
+    is = o.is;
+    there = o.there;
+    named = o.named;
+    owner_is = o.owner_is ∙ ap (slot_of sbid) (omega arith);
+    unit_is = omega (arith, o.unit_is);
+  }
+
+  first_or_later : (from first : ℕ) (x : Slot) (xs : List Slot) (a : Owner) (v : ℕ) → SlotsOwn from first (x ∷ xs) a v
+      → IsFirst from first x a v ⊎ SlotsOwn (suc from) (suc first) xs a v
+  first_or_later from first x xs a v o = by o.k o.there o.owner_is o.unit_is
+    where
+      by : (k : ℕ) → slice_get (x ∷ xs) k ≡ Some o.is → a ≡ slot_of sbid (from + k) → v ≡ first + k
+          → IsFirst from first x a v ⊎ SlotsOwn (suc from) (suc first) xs a v
+      by zero there owner unit =
+          let same : x ≡ o.is = cc in
+          inl (subst (λ (y : Slot). 0 < y.count) (sym same) o.named, (owner ∙ ap (slot_of sbid) (omega arith), omega (arith, unit)))
+      by (suc k) there owner unit = inr (record {
+        k = k;
+        is = o.is;
+        there = there;
+        named = o.named;
+        owner_is = owner ∙ ap (slot_of sbid) (omega arith);
+        unit_is = omega (arith, unit);
+      })
+
+  slot_tells : (P : Owner → ℕ → Type 0) (m : Marks) (units from first : ℕ) (x : Slot) → Tells P m → HasUnits units m → first < units
+      → ((v w : ℕ) → 0 < x.count → P (slot_of sbid from) w → ⊥) → Tells (λ a v. P a v ⊎ IsFirst from first x a v) (slot_marked m first x)
+  slot_tells P m units from first x old has within apart = by (nat_lt 0 x.count) refl
+    where
+      by : (b : Bool) → nat_lt 0 x.count ≡ b → Tells (λ a v. P a v ⊎ IsFirst from first x a v) (cond b (one_page_more m first) m)
+      by true is =
+          let some : 0 < x.count = ltb-true _ _ is in
+          tells_same _ _ _ (λ a v. (
+            λ q. elim q [ inl p ↦ inl p | inr e ↦ inr (some, e) ],
+            λ q. elim q [ inl p ↦ inl p | inr e ↦ inr e.1 ],
+          )) (one_more_tells P m (slot_of sbid from) first old (omega (arith, within, has.owned)) (omega (arith, within, has.shared)) (λ w p. apart w w some p))
+      by false is = tells_same P _ m (λ a v. (inl, λ q. elim q [ inl p ↦ p | inr e ↦ absurd (let yes = lt-ltb _ _ e.0 in cc) ])) old
+
+  slots_tells : (xs : List Slot) (P : Owner → ℕ → Type 0) (m : Marks) (units from first : ℕ) → Tells P m → HasUnits units m → first + length xs ≤ units
+      → ((a : Owner) (v w : ℕ) → SlotsOwn from first xs a v → P a w → ⊥) → Tells (λ a v. P a v ⊎ SlotsOwn from first xs a v) (slots_marked m first xs)
+  slots_tells [] P m units from first old has ends apart = tells_same P _ m (λ a v. (inl, λ q. elim q [ inl p ↦ p | inr o ↦ absurd (let t = o.there in cc) ])) old
+  slots_tells (x ∷ xs) P m units from first old has ends apart =
+      tells_same _ _ _ same (slots_tells xs (λ a v. P a v ⊎ IsFirst from first x a v) (slot_marked m first x) units (suc from) (suc first)
+      (slot_tells P m units from first x old has (omega (arith, ends)) (λ v w some p. apart (slot_of sbid from) first w (first_owns from first x xs (slot_of sbid from) first (some, (refl, refl))) p))
+      (slot_units units m first x has) (omega (arith, ends)) later_apart)
+    where
+      later_apart : (a : Owner) (v w : ℕ) → SlotsOwn (suc from) (suc first) xs a v → P a w ⊎ IsFirst from first x a w → ⊥
+      later_apart a v w o q = elim q [
+        | inl p ↦ apart a v w (later_owns from first x xs a v o) p
+        | inr e ↦ omega (arith, same_slot (suc from + o.k) from (sym o.owner_is ∙ e.1.0))
+      ]
+
+      same : (a : Owner) (v : ℕ) → ((P a v ⊎ IsFirst from first x a v) ⊎ SlotsOwn (suc from) (suc first) xs a v) ↔ (P a v ⊎ SlotsOwn from first (x ∷ xs) a v)
+      same a v = (
+        λ q. elim q [
+          | inl y ↦ elim y [ inl p ↦ inl p | inr e ↦ inr (first_owns from first x xs a v e) ]
+          | inr o ↦ inr (later_owns from first x xs a v o)
+        ],
+        λ q. elim q [
+          | inl p ↦ inl (inl p)
+          | inr o ↦ elim (first_or_later from first x xs a v o) [ inl e ↦ inl (inr e) | inr l ↦ inr l ]
+        ],
+      )
+
 -- ---- rows
 
--- a page of the row owns the unit
+-- a page of the row owns the unit, or a slot does
 abbrev pub RowOwns : format.Row → Owner → ℕ → Type 0
-RowOwns row = ExtentsOwn (format.shard_in row).coll (format.shard_in row).object (format.shard_in row).extents
+RowOwns row a v = ExtentsOwn (format.shard_in row).coll (format.shard_in row).object (format.shard_in row).extents a v
+    ⊎ SlotsOwn (blob_in row).sbid 0 (blob_in row).first (blob_in row).slots a v
 
--- then the row is a shard
-pub owns_shard : (row : format.Row) (a : Owner) (v : ℕ) → RowOwns row a v → row ≡ format.as_row (format.shard_in row)
+-- a row is a blob's, or says nothing of one
+pub is_blob_or_none : (row : format.Row) → (row ≡ format.blob (blob_in row).sbid (blob_in row).first (blob_in row).slots) ⊎ (blob_in row ≡ no_blob)
+is_blob_or_none (format.blob sbid first slots) = inl refl
+is_blob_or_none row = inr refl
+
+-- where a page owns it the row is a shard
+pub owns_shard : (row : format.Row) (a : Owner) (v : ℕ)
+    → ExtentsOwn (format.shard_in row).coll (format.shard_in row).object (format.shard_in row).extents a v → row ≡ format.as_row (format.shard_in row)
 owns_shard row a v owns = elim (is_shard_or_none row) [
   | inl is ↦ is
   | inr none ↦ absurd (let found = sym (ap (λ (x : format.ShardRow). place_of x.extents owns.page) none) ∙ owns.found in cc)
 ]
 
+-- and where a slot does it is a blob's
+pub owns_blob : (row : format.Row) (a : Owner) (v : ℕ) → SlotsOwn (blob_in row).sbid 0 (blob_in row).first (blob_in row).slots a v
+    → row ≡ format.blob (blob_in row).sbid (blob_in row).first (blob_in row).slots
+owns_blob row a v owns = elim (is_blob_or_none row) [
+  | inl is ↦ is
+  | inr none ↦ absurd (let found = sym (ap (λ (x : BlobRow). slice_get x.slots owns.k) none) ∙ owns.there in cc)
+]
+
 abbrev pub RowAscends : format.Row → Type 0
 RowAscends row = ExtentsAscend (format.shard_in row).extents
 
+no_page_is_slot : (c o : List ℕ) (page sbid index : ℕ) → page_of c o page ≡ slot_of sbid index → ⊥
+no_page_is_slot c o page sbid index e = cc
+
 pub row_tells : (row : format.Row) (P : Owner → ℕ → Type 0) (m : Marks) (units : ℕ) → Tells P m → HasUnits units m → RowEndsBy units row
     → RowAscends row → ((a : Owner) (v w : ℕ) → RowOwns row a v → P a w → ⊥) → Tells (λ a v. P a v ⊎ RowOwns row a v) (row_marked m row)
-row_tells row = extents_tells (format.shard_in row).coll (format.shard_in row).object (format.shard_in row).extents
+row_tells row P m units old has ends ascend apart =
+    let x = format.shard_in row in
+    let b = blob_in row in
+    let pages = extents_tells x.coll x.object x.extents P m units old has ends.0 ascend (λ a v w owns p. apart a v w (inl owns) p) in
+    tells_same _ _ _ (λ a v. (
+      λ q. elim q [ inl y ↦ elim y [ inl p ↦ inl p | inr e ↦ inr (inl e) ] | inr o ↦ inr (inr o) ],
+      λ q. elim q [ inl p ↦ inl (inl p) | inr y ↦ elim y [ inl e ↦ inl (inr e) | inr o ↦ inr o ] ],
+    )) (slots_tells b.sbid b.slots (λ a v. P a v ⊎ ExtentsOwn x.coll x.object x.extents a v) (extents_marked m x.extents) units 0 b.first
+    pages (extents_units units x.extents m has) ends.1 (λ a v w owns q. elim q [
+      | inl p ↦ apart a v w (inr owns) p
+      | inr e ↦ no_page_is_slot x.coll x.object e.page b.sbid (0 + owns.k) (sym e.owner_is ∙ owns.owner_is)
+    ]))

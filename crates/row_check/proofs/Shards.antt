@@ -1,5 +1,5 @@
 -- A shard's place among the shards before it, by the last row that was passed.
-use Rattle.std.proofs.Common.{◌≡◌, ◌≢◌, ℕ, ◌^◌, ◌<◌, ◌≤◌, List, [], ◌∷◌, ◌++◌, Option, Some, None, Result, Ok, Err, Bool, IfOk, IsTrue, MatchOption, refl, sym, ap, subst, ◌∙◌, arith, ◌↔◌}
+use Rattle.std.proofs.Common.{◌≡◌, ◌≢◌, ℕ, ◌^◌, ◌<◌, ◌≤◌, List, ◌∷◌, ◌++◌, [], Option, Some, None, Result, Ok, Err, Bool, IfOk, IsTrue, MatchOption, refl, sym, ap, subst, ◌∙◌, arith, ◌↔◌}
 use Rattle.std.specs.List.{AllByRecursion}
 use Rattle.std.specs.declared.cmp.Ordering.TheVariants.{Less}
 use Rattle.byte_maps.specs.ByteMap.{byte_order}
@@ -7,26 +7,18 @@ use Rattle.unit_fields.specs.Prelude.{IsName, IsCollName}
 use Rattle.meta_rows.specs.Prelude.{Rows}
 use Rattle.meta_log.specs.declared.slot.Super.{Super}
 use Rattle.meta_log.specs.Prelude.{width_of}
-use Rattle.row_format.specs.Prelude.{onode_key, shard_key, Body, private, shared, Extent, page_end, collection, onode, shard, attribute, omap_header, omap_pair, blob, bitmap}
+use Rattle.row_format.specs.Prelude.{onode_key, shard_key, Extent, page_end, collection, onode, shard, attribute, omap_header, omap_pair, blob, bitmap}
 use Rattle.row_format.specs.Row as format
 use Rattle.row_format.proofs.Prelude.{same_head, coll_no_object, bitmap_no_object, same_place, same_row}
-use Rattle.store_image.specs.Prelude.{HasShard, IsOnData, HasSlots, IsInPlace, IsShardInPlace, IsGoodRow}
+use Rattle.store_image.specs.Prelude.{HasShard, IsInPlace, IsShardInPlace, IsGoodRow}
 use Rattle.row_reading.specs.declared.row.Row.{Row}
 use Rattle.row_reading.specs.declared.row.Row.TheVariants as read
 use Rattle.row_reading.specs.Reading.{format_row, SpellsRow}
 use Rattle.row_check.specs.declared.passed.Passed.{Passed}
 use Rattle.row_check.specs.Bad.{IsFirst, IsLast, EndAt, ShardsEndAt, Knows, IsBelow, IsAtRow, IsShardOf, EndsBefore, ShardStands}
+use Rattle.row_check.specs.Named.{KnowsEarlier}
+use Rattle.row_check.proofs.Named.{earlier_known}
 use Rattle.row_reading.proofs.KeyOrder.{has_front, onode_front, shard_front, page_bytes, lesser_page, lesser_shard, onode_before}
-
--- what stands on data units is on no slots so far
-on_no_slots : (s : Super) (rows : Rows) (c : List ℕ) (es : List Extent) → AllByRecursion (λ e. IsOnData s e.body) es
-    → AllByRecursion (λ e. HasSlots (width_of s) rows c e.body) es
-on_no_slots s rows c [] all = tt
-on_no_slots s rows c (e ∷ es) all = (of_body e.body all.0, on_no_slots s rows c es all.1)
-  where
-    of_body : (b : Body) → IsOnData s b → HasSlots (width_of s) rows c b
-    of_body (private unit csums) on = tt
-    of_body (shared sbid first count) on = absurd on
 
 module _ (s : Super) (rows : Rows) (c o : List ℕ) (page : ℕ) (coll : IsCollName c) (name : IsName o) (below : page < 2 ^ 32) where
   -- what a shard asks of those before it
@@ -116,18 +108,26 @@ module _ (s : Super) (rows : Rows) (c o : List ℕ) (page : ℕ) (coll : IsCollN
         behind = behind_last ends;
         within = stands.within_onode.within;
         on_data = stands.on_data;
-        slots = on_no_slots s rows c es stands.on_data;
+        slots = stands.slots;
       },
       λ place. record {
         ascend = place.ascend;
         on_data = place.on_data;
         has_collection = place.has_collection;
         within_onode = record { has_onode = place.has_onode; within = place.within };
+        slots = place.slots;
       },
     )
 
     pub unplaced : (es : List Extent) → ¬ EndsBefore p c o page → ¬ IsShardInPlace s rows c o page es
     unplaced es apart place = apart (last_behind place.behind)
+
+-- what is known at a shard of the blobs that collections named
+pub earlier_here : (s : Super) (rows : Rows) (p : Passed) (row : Row) (c o : List ℕ) (page : ℕ) (es : List Extent) → row ≡ read.Shard c o page es
+    → IsAtRow s rows p row → KnowsEarlier (width_of s) rows p.namers c
+earlier_here s rows p row c o page es is at =
+    let here : IsAtRow s rows p (read.Shard c o page es) = subst (IsAtRow s rows p) is at in
+    earlier_known (width_of s) rows c o page here.fits.coll_name p.namers here.knows.namers
 
 -- the answer of `is_in_place` at a shard whose predecessors end before it
 pub shard_answer : {E : Type 0} (s : Super) (rows : Rows) (p : Passed) (row : Row) (c o : List ℕ) (page : ℕ) (es fs : List Extent) (r : Result Bool E)

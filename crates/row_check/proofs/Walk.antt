@@ -2,22 +2,18 @@
 use Rattle.std.proofs.Common.{◌≡◌, ◌≢◌, ◌↔◌, ◌⊎◌, ℕ, ◌+◌, ◌<◌, ◌≤◌, inl, inr, Bool, true, false, IsTrue, List, [], ◌∷◌, ◌++◌, length, get_or, Option, Some, None, MatchOption, refl, sym, ap, subst, ◌∙◌, arith}
 use Rattle.std.specs.Prelude.{IfSome}
 use Rattle.std.specs.List.{AllByRecursion}
-use Rattle.std.specs.Ordering.{ordering_reverse}
-use Rattle.std.specs.declared.cmp.Ordering.{Ordering}
-use Rattle.std.specs.declared.cmp.Ordering.TheVariants.{Less, Equal, Greater}
+use Rattle.std.specs.declared.cmp.Ordering.TheVariants.{Less}
 use Rattle.std.specs.FinMap as map
-use Rattle.std.proofs.lemmas.Cmp.{tied_itself, nat_list_cmp_total}
 use Rattle.std.proofs.lemmas.Bool.{cases_lt}
 use Rattle.byte_maps.specs.ByteMap.{byte_order}
-use Rattle.byte_maps.proofs.Prelude.{same_bytes}
 use Rattle.unit_fields.specs.declared.width.Width.{Width}
 use Rattle.meta_rows.specs.Prelude.{Rows}
 use Rattle.meta_log.specs.declared.slot.Super.{Super}
 use Rattle.meta_log.specs.Prelude.{width_of}
-use Rattle.row_format.specs.Prelude.{shard_key, page_end, shard}
+use Rattle.row_format.specs.Prelude.{shard_key, Extent, page_end, shard}
 use Rattle.row_format.specs.Row as format
 use Rattle.row_format.proofs.Prelude.{same_row}
-use Rattle.store_image.specs.Prelude.{HasRow, IsInPlace, IsGoodRow, IsBadRow, NoBadRow}
+use Rattle.store_image.specs.Prelude.{HasRow, HasShard, IsInPlace, IsGoodRow, IsBadRow, NoBadRow}
 use Rattle.ordered_lists.specs.Lists.{ListsAll}
 use Rattle.ordered_lists.proofs.Joining.{lists_none, lists_one, lists_as, lists_joined}
 use Rattle.row_reading.proofs.Entries.{rising, StandsAt, entry_is, AreRows}
@@ -26,23 +22,9 @@ use Rattle.row_reading.specs.declared.row.Row.TheVariants as read
 use Rattle.row_reading.specs.Reading.{format_row, SpellsRow, IsNoRow}
 use Rattle.row_check.specs.declared.passed.Passed.{Passed}
 use Rattle.row_check.specs.Bad.{IsLeastBad, IsRowJudged, IsFirst, IsLast, ShardsEndAt, Knows, IsBelow, IsUpTo, EndsWith}
+use Rattle.row_check.specs.Named.{Namers, AreNamersSoFar, all_named, row_named}
+use Rattle.row_check.proofs.Named.{not_less_back, below_or_same, itself_up_to, none_named, namers_as, shard_passed}
 use Rattle.row_check.proofs.Shards.{earlier_ends, all_end, no_good}
-
--- ---- keys in order
-
-not_less_back : (k key : List ℕ) → byte_order k key ≡ Less → byte_order key k ≢ Less
-not_less_back k key less = let back = nat_list_cmp_total.antisymm key k ∙ ap ordering_reverse less in λ e. absurd cc
-
-below_or_same : (k key : List ℕ) → byte_order key k ≢ Less → (byte_order k key ≡ Less) ⊎ (key ≡ k)
-below_or_same k key up = by (byte_order key k) refl
-  where
-    by : (r : Ordering) → byte_order key k ≡ r → (byte_order k key ≡ Less) ⊎ (key ≡ k)
-    by Less e = absurd (up e)
-    by Equal e = inr (same_bytes key k e)
-    by Greater e = inl (nat_list_cmp_total.antisymm k key ∙ ap ordering_reverse e)
-
-itself_up_to : (key : List ℕ) → byte_order key key ≢ Less
-itself_up_to key = let tied = tied_itself nat_list_cmp_total key in λ e. absurd cc
 
 -- ---- rows that are spelled
 
@@ -83,7 +65,12 @@ module _ (s : Super) (rows : Rows) (B C : List ℕ → Type 0) (same : (r : form
   )
 
   pub knows_as : (p : Passed) → Knows s rows B p → Knows s rows C p
-  knows_as p knows = record { last_is = last_as p.last knows.last_is; placed = knows.placed; end_is = end_as p.last p.end knows.end_is }
+  knows_as p knows = record {
+    last_is = last_as p.last knows.last_is;
+    placed = knows.placed;
+    end_is = end_as p.last p.end knows.end_is;
+    namers = namers_as (width_of s) rows B C (λ c o page es has. same (shard c o page es) has) p.namers knows.namers;
+  }
 
 -- ---- a row is passed
 
@@ -149,13 +136,45 @@ module _ (s : Super) (rows : Rows) (key value : List ℕ) (stands : map.get rows
         ),
       )
 
+  -- a row that is no shard names nothing
+  none_more : (row : Row) → SpellsRow (width_of s) key value (format_row row value)
+      → ((c o : List ℕ) (page : ℕ) (es : List Extent) → format_row row value ≡ shard c o page es → ⊥)
+      → (m : Namers) → AreNamersSoFar (width_of s) rows (IsBelow key) m → AreNamersSoFar (width_of s) rows (IsUpTo key) m
+  none_more row spells none = namers_as (width_of s) rows (IsBelow key) (IsUpTo key) (λ c o page es has. (
+    λ less. not_less_back (shard_key c o page) key less,
+    λ up. elim (below_or_same (shard_key c o page) key up) [
+      | inl less ↦ less
+      | inr is ↦ absurd (none c o page es (same_here row spells (shard c o page es) has is))
+    ],
+  ))
+
+  namers_end : (row : Row) → SpellsRow (width_of s) key value (format_row row value) → (m : Namers)
+      → AreNamersSoFar (width_of s) rows (IsBelow key) m → AreNamersSoFar (width_of s) rows (IsUpTo key) (row_named m row)
+  namers_end (read.Collection d) spells m are = none_more (read.Collection d) spells (λ c o page es e. cc) m are
+  namers_end (read.Onode d u size) spells m are = none_more (read.Onode d u size) spells (λ c o page es e. cc) m are
+  namers_end (read.Attribute d u n) spells m are = none_more (read.Attribute d u n) spells (λ c o page es e. cc) m are
+  namers_end (read.OmapHeader d u) spells m are = none_more (read.OmapHeader d u) spells (λ c o page es e. cc) m are
+  namers_end (read.OmapPair d u k) spells m are = none_more (read.OmapPair d u k) spells (λ c o page es e. cc) m are
+  namers_end (read.Blob sbid first slots) spells m are = none_more (read.Blob sbid first slots) spells (λ c o page es e. cc) m are
+  namers_end (read.Bitmap r bits) spells m are = none_more (read.Bitmap r bits) spells (λ c o page es e. cc) m are
+  namers_end (read.Shard c o page es) spells m are =
+      let row : Row = read.Shard c o page es in
+      let here = subst (λ (k : List ℕ). AreNamersSoFar (width_of s) rows (IsBelow k) m) spells.key_is are in
+      let has : HasShard (width_of s) rows c o page es = has_row row spells in
+      subst (λ (k : List ℕ). AreNamersSoFar (width_of s) rows (IsUpTo k) (all_named c m es)) (sym spells.key_is)
+      (shard_passed (width_of s) rows c o page spells.fits.coll_name es has (λ d u q fs there is.
+      let one : shard c o page es ≡ shard d u q fs = same_here row spells (shard d u q fs) there (spells.key_is ∙ is) in
+      (ap (λ (r : format.Row). (format.shard_in r).coll) one, ap (λ (r : format.Row). (format.shard_in r).extents) one)) m here)
+
   pub passed_row : (row : Row) (p q : Passed) (fits : Bool) → SpellsRow (width_of s) key value (format_row row value) → Knows s rows (IsBelow key) p
-      → ((v : List ℕ) → IsTrue fits ↔ IsInPlace s rows (format_row row v)) → q.last ≡ Some row → q.in_place ≡ fits → EndsWith p row q.end → Knows s rows (IsUpTo key) q
-  passed_row row p q fits spells knows decided last placed end = record {
+      → ((v : List ℕ) → IsTrue fits ↔ IsInPlace s rows (format_row row v)) → q.last ≡ Some row → q.in_place ≡ fits → EndsWith p row q.end
+      → q.namers ≡ row_named p.namers row → Knows s rows (IsUpTo key) q
+  passed_row row p q fits spells knows decided last placed end named = record {
     last_is = subst (λ (l : Option Row). MatchOption l (IsFirst (width_of s) rows (IsUpTo key)) (λ row. (value : List ℕ) × IsLast (width_of s) rows (IsUpTo key) (format_row row value)))
         (sym last) (value, last_here row spells);
     placed = λ is. subst (λ (l : Option Row). IfSome l (λ row. (value : List ℕ) → IsInPlace s rows (format_row row value))) (sym last) (λ v. (decided v).0 (sym placed ∙ is));
     end_is = subst (λ (l : Option Row). ShardsEndAt (width_of s) rows (IsUpTo key) l q.end) (sym last) (shards_end row p q.end spells knows end);
+    namers = subst (AreNamersSoFar (width_of s) rows (IsUpTo key)) (sym named) (namers_end row spells p.namers knows.namers);
   }
 
 -- whether the row is good, by its place
@@ -176,8 +195,13 @@ judged_by s rows key value r fits spells decided = (
 abbrev pub InFirst : List (List ℕ × List ℕ) → ℕ → List ℕ → Type 0
 InFirst es i k = (value : List ℕ) × (at : StandsAt es k value) × (at.at < i)
 
-pub at_start : (s : Super) (rows : Rows) (es : List (List ℕ × List ℕ)) → Knows s rows (InFirst es 0) (record { last = None; in_place = false; end = 0 })
-at_start s rows es = record { last_is = λ r has is. absurd (omega (arith, is.2)); placed = λ never. tt; end_is = tt }
+pub at_start : (s : Super) (rows : Rows) (es : List (List ℕ × List ℕ)) → Knows s rows (InFirst es 0) (record { last = None; in_place = false; end = 0; namers = map.empty })
+at_start s rows es = record {
+  last_is = λ r has is. absurd (omega (arith, is.2));
+  placed = λ never. tt;
+  end_is = tt;
+  namers = none_named (width_of s) rows (InFirst es 0) (λ r has is. omega (arith, is.2));
+}
 
 pub none_bad_yet : (s : Super) (rows : Rows) (es : List (List ℕ × List ℕ)) → ListsAll (λ a b. byte_order a b ≡ Less) (λ n. IsBadRow s rows n × InFirst es 0 n) []
 none_bad_yet s rows es = lists_none (λ (a b : List ℕ). byte_order a b ≡ Less) (λ n. IsBadRow s rows n × InFirst es 0 n) (λ n is. omega (arith, is.1.2))

@@ -10,12 +10,13 @@ use Rattle.meta_log.specs.declared.slot.Super.{Super}
 use Rattle.meta_log.specs.Prelude.{width_of}
 use Rattle.row_format.specs.Prelude.{coll_key, onode_key, shard_key, Extent, page_end, ExtentsAscend}
 use Rattle.row_format.specs.Row as format
-use Rattle.store_image.specs.Prelude.{HasKey, HasRow, HasOnode, HasShard, pages_of, IsOnData, IsInPlace, IsGoodRow, IsBadRow}
+use Rattle.store_image.specs.Prelude.{HasKey, HasRow, HasOnode, HasShard, pages_of, IsOnData, HasSlots, IsInPlace, IsGoodRow, IsBadRow}
 use Rattle.row_reading.specs.declared.row.Row.{Row}
 use Rattle.row_reading.specs.declared.row.Row.TheVariants as read
 use Rattle.row_reading.specs.Reading.{format_row}
 use Rattle.ordered_lists.specs.Lists.{ListsAll}
 use Rattle.row_check.specs.declared.passed.Passed.{Passed}
+use Rattle.row_check.specs.Named.{AreNamersSoFar}
 
 -- each row whose key is below this one is good
 abbrev pub AreGoodBefore : Super → Rows → List ℕ → Type 0
@@ -61,6 +62,7 @@ pub record Knows (s : Super) (rows : Rows) (Before : List ℕ → Type 0) (p : P
   pub last_is : MatchOption p.last (IsFirst (width_of s) rows Before) (λ row. (value : List ℕ) × IsLast (width_of s) rows Before (format_row row value))
   pub placed : p.in_place ≡ true → IfSome p.last (λ row. (value : List ℕ) → IsInPlace s rows (format_row row value))
   pub end_is : ShardsEndAt (width_of s) rows Before p.last p.end
+  pub namers : AreNamersSoFar (width_of s) rows Before p.namers
 
 -- the rows whose keys are below this one were passed, or this one and those
 abbrev pub IsBelow : List ℕ → List ℕ → Type 0
@@ -135,3 +137,4 @@ pub record ShardStands (s : Super) (rows : Rows) (c o : List ℕ) (extents : Lis
   pub on_data : AllByRecursion (λ e. IsOnData s e.body) extents
   pub has_collection : HasKey rows (coll_key c)
   pub within_onode : IsWithinOnode rows c o extents
+  pub slots : AllByRecursion (λ e. HasSlots (width_of s) rows c e.body) extents

@@ -1,5 +1,7 @@
 -- The least unit of which something holds.
-use Rattle.std.specs.Prelude.{◌⊎◌, ℕ, ◌<◌, min, Option, Some, None, MatchOption}
+use Rattle.std.specs.Prelude.{◌⊎◌, ℕ, ◌<◌, min, map, List, Option, Some, None, MatchOption}
+use Rattle.ordered_lists.specs.Lists.{IsIn}
+use Rattle.findings.specs.Findings.{SlotCount}
 use Rattle.bitmap_freelist.specs.Bitmap.{Units, Has}
 
 -- it holds of this unit, and of none that is less
@@ -15,9 +17,13 @@ IsLeastOf P found = MatchOption found ((unit : ℕ) → ¬ P unit) (IsLeastUnit 
 abbrev pub IsOnlyIn : Units → Units → ℕ → Type 0
 IsOnlyIn units others unit = Has units unit × ¬ Has others unit
 
--- The unit is one of these that have an owner, and none of these that are marked; or one of these that have two owners.
-abbrev pub IsWrong : Units → Units → Units → ℕ → Type 0
-IsWrong owned shared marked unit = IsOnlyIn owned marked unit ⊎ Has shared unit
+-- the unit is that of one of these slots
+abbrev pub IsUnitOfSlots : List SlotCount → ℕ → Type 0
+IsUnitOfSlots counts unit = IsIn unit (map (λ (x : SlotCount). x.unit) counts)
+
+-- The unit is one of these that have an owner, and none of these that are marked; or one of these that have two owners; or that of one of these slots.
+abbrev pub IsWrong : Units → Units → Units → List SlotCount → ℕ → Type 0
+IsWrong owned shared marked counts unit = IsOnlyIn owned marked unit ⊎ (Has shared unit ⊎ IsUnitOfSlots counts unit)
 
 -- the lesser of two, where there are two
 abbrev pub lesser_of : Option ℕ → Option ℕ → Option ℕ

@@ -5,6 +5,9 @@
 //! they need only that these are there, and are bad or good by that whatever else is. So one pass in the order of keys finds the least
 //! bad row and stops there, or goes on for all of them: it looks up the two rows of such a row's object, but where the row before is of
 //! the same object it is known to have them, and nothing is looked up.
+//!
+//! A shard on slots of a shared blob needs the blob's row too, whose key is behind all keys of objects, and that no collection before its own
+//! names the blob: the pass looks up the row for each such extent, and keeps for each blob the collection that named it first.
 ghost use Rattle.std.specs.Prelude.{◌≡◌, Some, IfOk, OnOk, MatchOption, map};
 ghost use Rattle.std.specs.FinMap as rows_of_map;
 ghost use Rattle.store_image.specs.Prelude.{NoBadRow};
@@ -46,7 +49,7 @@ fn judge_row(
     };
     match is_in_place(alloc, sup, rows, passed, &row) {
         Ok(fits) => {
-            passed.pass(row, fits);
+            passed.pass(alloc, row, fits)?;
             Ok(fits)
         }
         Err(full) => {
@@ -65,7 +68,7 @@ pub fn find_bad_row(
 ) -> Result<Option<Bytes>, AllocError>
     ensures { IfOk result (λ found. MatchOption found (NoBadRow sup.now rows.now.rows) (IsLeastBad sup.now rows.now.rows)) }
 {
-    let mut passed = Passed::new();
+    let mut passed = Passed::new(alloc);
     for (key, value) in rows.range(b"", None) {
         let judged = judge_row(
             alloc,
@@ -98,7 +101,7 @@ pub fn bad_rows(alloc: Global, sup: &Super, rows: &RowTable) -> Result<Items<Byt
     ensures { IfOk result (AreBadKeys sup.now rows.now.rows) }
 {
     let mut bad = Items::new(alloc);
-    let mut passed = Passed::new();
+    let mut passed = Passed::new(alloc);
     for (key, value) in rows.range(b"", None) {
         let good = judge_row(
             alloc,

@@ -4,10 +4,13 @@ ghost use Rattle.std.specs.List.{AllByRecursion};
 ghost use Rattle.std.specs.FinSet as set;
 ghost use Rattle.meta_log.specs.Prelude.{width_of, IsSuper};
 ghost use Rattle.store_image.specs.Prelude.{NoBadRow, IsExactAs, IsLeastInexact, IsOwned, IsMarked, IsLeaked, HasSoleOwner};
-ghost use Rattle.ordered_lists.specs.Lists.{IsIn, ListsAll};
+ghost use Rattle.ordered_lists.specs.Lists.{IsIn, Ascend, ListsAll};
+ghost use Rattle.findings.specs.Findings.{SlotBefore};
 ghost use Rattle.bitmap_freelist.specs.Bitmap.{Has, AreMarked};
-ghost use Rattle.row_check.specs.Least.{IsLeastOf, IsOnlyIn, IsWrong, lesser_of};
+ghost use Rattle.row_check.specs.Least.{IsLeastOf, IsOnlyIn, IsUnitOfSlots, IsWrong, lesser_of};
+ghost use Rattle.row_check.specs.Tallies.{AreWrongCounts};
 
+use crate::counts::{SlotCount, wrong_counts};
 use crate::owners::{OwnedUnits, owned_units};
 use meta_log::Super;
 use meta_rows::RowTable;
@@ -65,11 +68,26 @@ fn lesser(one: Option<u32>, other: Option<u32>) -> Option<u32>
     }
 }
 
-// The least unit that has an owner and isn't marked, or two owners.
-fn least_wrong(owners: &OwnedUnits, marked: &UnitSet) -> Option<u32>
-    ensures { IsLeastOf (IsWrong owners.now.owned owners.now.shared marked.now) result }
+// The unit of the first of these slots.
+fn first_unit(counts: &[SlotCount]) -> Option<u32>
+    requires { Ascend SlotBefore counts.now }
+    ensures { IsLeastOf (IsUnitOfSlots counts.now) result }
 {
-    lesser(least_outside(&owners.owned, marked), least(&owners.shared))
+    match counts {
+        [first, ..] => Some(first.unit),
+        [] => None,
+    }
+}
+
+// The least unit that has an owner and isn't marked, or two owners, or that is that of one of these slots.
+fn least_wrong(owners: &OwnedUnits, marked: &UnitSet, counts: &[SlotCount]) -> Option<u32>
+    requires { Ascend SlotBefore counts.now }
+    ensures { IsLeastOf (IsWrong owners.now.owned owners.now.shared marked.now counts.now) result }
+{
+    lesser(
+        least_outside(&owners.owned, marked),
+        lesser(least(&owners.shared), first_unit(counts)),
+    )
 }
 
 /// Units by what is wrong with them: what `fsck` tells of a store without bad rows. Each list ascends.
@@ -79,8 +97,10 @@ pub struct WrongUnits {
     pub leaked: Vec<u32>,
     /// Owned, and not marked.
     pub unmarked: Vec<u32>,
-    /// Owned by two pages or more.
+    /// With two owners or more.
     pub doubled: Vec<u32>,
+    /// The slots of shared blobs with wrong counts, by unit and then by blob.
+    pub counts: Vec<SlotCount>,
 }
 
 // Those of the units that are none of the others.
@@ -118,8 +138,8 @@ fn units_in(alloc: Global, units: &UnitSet) -> Result<Vec<u32>, AllocError>
     copy_of(alloc, units.as_slice())
 }
 
-/// The units that are marked and that nobody owns, those that have an owner and aren't marked, and those that have two owners or more: what
-/// `fsck` tells. Each other unit that is marked has an owner.
+/// The units that are marked and that nobody owns, those that have an owner and aren't marked, those that have two owners or more, and the slots
+/// with wrong counts: what `fsck` tells. Each other unit that is marked has an owner, and each other slot's count is right.
 pub fn wrong_units(alloc: Global, sup: &Super, rows: &RowTable) -> Result<WrongUnits, AllocError>
     requires limits { IsSuper sup.now }
     requires good { NoBadRow sup.now rows.now.rows }
@@ -129,25 +149,28 @@ pub fn wrong_units(alloc: Global, sup: &Super, rows: &RowTable) -> Result<WrongU
     ensures doubled { IfOk result (λ wrong. ListsAll (λ a b. a < b) (λ unit. ¬ HasSoleOwner (width_of sup.now) rows.now.rows unit) wrong.doubled.items) }
     ensures others { IfOk result (λ wrong. (unit : ℕ) → unit < 2 ^ 32 → IsMarked rows.now.rows unit →
         IsIn unit wrong.leaked.items ⊎ IsOwned (width_of sup.now) rows.now.rows unit) }
+    ensures counts { IfOk result (λ wrong. AreWrongCounts (width_of sup.now) rows.now.rows wrong.counts.items) }
 {
     let owners = owned_units(alloc, sup, rows)?;
     let marked = bitmap_freelist::read(alloc, rows)?;
     let leaked = units_outside(alloc, &marked, &owners.owned)?;
     let unmarked = units_outside(alloc, &owners.owned, &marked)?;
     let doubled = units_in(alloc, &owners.shared)?;
+    let counts = wrong_counts(alloc, sup, rows)?;
     Ok(WrongUnits {
         leaked,
         unmarked,
         doubled,
+        counts,
     })
 }
 
 /// The units that the bitmap marks: what a mount asks for before it opens a store, so that the allocator gives none of them to anybody. Else the
-/// least unit that has an owner and isn't marked, or two owners. Marked units that nobody owns are leaked, and let pass.
-/// (Ceph: `fsck`'s "stray" and "extra" units are these and the leaked ones.)
+/// least unit that has an owner and isn't marked, or two owners, or that is that of a slot with a wrong count. Marked units that nobody owns are
+/// leaked, and let pass. (Ceph: `fsck`'s "stray" and "extra" units are these and the leaked ones.)
 ///
-/// The rows are read once and those of the bitmap once more, two marks are kept for each unit of the device meanwhile, and each unit that has
-/// an owner is looked up among the marked ones, unless these are the same.
+/// The rows are read once and those of the bitmap once more, and where there are shared blobs all once more; two marks are kept for each unit of
+/// the device meanwhile, and each unit that has an owner is looked up among the marked ones, unless these are the same.
 pub fn marked_units(
     alloc: Global,
     sup: &Super,
@@ -161,7 +184,8 @@ pub fn marked_units(
 {
     let owners = owned_units(alloc, sup, rows)?;
     let marked = bitmap_freelist::read(alloc, rows)?;
-    match least_wrong(&owners, &marked) {
+    let counts = wrong_counts(alloc, sup, rows)?;
+    match least_wrong(&owners, &marked, &counts) {
         Some(unit) => Ok(Err(UnitNo::new(unit))),
         None => Ok(Ok(marked)),
     }

@@ -7,8 +7,11 @@ ghost use Rattle.store_image.specs.Prelude.{HasKey, HasOnode, pages_of, AreData,
 ghost use Rattle.onode_codec.specs.Reading.{SpellsOnode};
 ghost use Rattle.row_reading.specs.Reading.{format_row};
 ghost use Rattle.row_check.specs.Bad.{IsOfObject, IsOfNoObject, IsPlacedOf, IsPlacedIn, IsOnodeOf, IsWithinOnode, ShardStands, IsAtRow};
+ghost use Rattle.meta_log.specs.Prelude.{width_of};
+ghost use Rattle.row_check.specs.Named.{KnowsEarlier};
 ghost use Rattle.row_check.specs.DataBits.{bit_at_place, IsBitOfData};
 
+use crate::blobs::{all_have_slots, is_blob_in_place};
 use crate::passed::{Passed, is_of_object};
 use meta_log::Super;
 use meta_rows::RowTable;
@@ -50,15 +53,15 @@ fn ascend(extents: &[Extent]) -> bool
     true
 }
 
-// Whether so many units from this one on are data units.
-fn are_data(sup: &Super, first: u64, count: u64) -> bool
+/// Whether so many units from this one on are data units.
+pub(crate) fn are_data(sup: &Super, first: u64, count: u64) -> bool
     ensures { IsTrue result ↔ AreData sup.now first count }
 {
     let units = u64::from(sup.units);
     2 + 2 * u64::from(sup.half) <= first && first <= units && count <= units - first
 }
 
-// Whether an extent's pages stand on data units. Of those on slots none do so far.
+// Whether an extent's pages stand on data units. (Those on slots do by their blob's row.)
 fn is_on_data(sup: &Super, extent: &Extent) -> bool
     ensures { IsTrue result ↔ IsOnData sup.now extent.now.body }
 {
@@ -66,7 +69,7 @@ fn is_on_data(sup: &Super, extent: &Extent) -> bool
         Body::Private { unit, csums } => {
             are_data(sup, u64::from(unit.number()), csums.len() as u64)
         }
-        Body::Shared { .. } => false,
+        Body::Shared { .. } => true,
     }
 }
 
@@ -256,9 +259,14 @@ fn shard_stands(
     requires object { IsName object.now }
     requires collection { IsPlacedIn passed.now coll.now → HasKey rows.now.rows (coll_key coll.now) }
     requires before { (size : ℕ) → IsOnodeOf passed.now.last coll.now object.now size → HasOnode rows.now.rows coll.now object.now size }
+    requires earlier { KnowsEarlier (width_of sup.now) rows.now.rows passed.now.namers coll.now }
     ensures { IfOk result (λ stands. IsTrue stands ↔ ShardStands sup.now rows.now.rows coll.now object.now extents.now) }
 {
     if !ascend(extents) || !all_on_data(sup, extents) {
+        return Ok(false);
+    }
+    let have = all_have_slots(alloc, sup.width(), rows, &passed.namers, coll, extents)?;
+    if !have {
         return Ok(false);
     }
     match size_of(&passed.last, coll, object) {
@@ -349,7 +357,9 @@ pub fn is_in_place(
             object,
             key: _key,
         } => has_object(alloc, rows, passed, coll, object),
-        Row::Blob { .. } => Ok(false),
+        Row::Blob { sbid, first, slots } => {
+            Ok(is_blob_in_place(sup, *sbid, *first, slots.as_slice()))
+        }
         Row::Bitmap { row, bits } => Ok(are_of_data(sup, *row, bits.as_slice())),
     }
 }

@@ -1,14 +1,16 @@
 //! The units that the rows own.
-ghost use Rattle.std.specs.Prelude.{ℕ, ◌≡◌, ◌<◌, ◌^◌, IfOk, false, length, slice_index_or};
+ghost use Rattle.std.specs.Prelude.{ℕ, ◌≡◌, ◌<◌, ◌^◌, IfOk, OnOk, false, length, slice_index_or};
 ghost use Rattle.std.specs.FinSet as set;
 ghost use Rattle.meta_log.specs.Prelude.{width_of, IsSuper};
 ghost use Rattle.store_image.specs.Prelude.{NoBadRow, IsOwned};
+ghost use Rattle.row_check.specs.Marks.{EndsBlobBy, AddsMarks};
 ghost use Rattle.row_check.specs.Owned.{AreOwned, AreShared, MarksOwners, AreMarkedOn, SpellsRowWithin, TellsShard};
 
+use crate::counts::is_blob_key;
 use crate::unit_marks::UnitMarks;
 use meta_log::Super;
 use meta_rows::RowTable;
-use row_reading::OBJECT;
+use row_reading::{OBJECT, Row, read_row};
 use std::alloc::{AllocError, Global};
 use unit_fields::{UnitSet, Width};
 
@@ -18,9 +20,9 @@ const ONODE_BYTES: usize = 8;
 /// The units that the rows own, and those of them that have two owners or more.
 #[derive(Drop)]
 pub(crate) struct OwnedUnits {
-    /// A page stands on each of these.
+    /// A page of an object's own or a slot that pages name stands on each of these.
     pub(crate) owned: UnitSet,
-    /// Two pages or more stand on each of these, of one object or of several.
+    /// Two such pages or slots or more stand on each of these.
     pub(crate) shared: UnitSet,
 }
 
@@ -34,17 +36,47 @@ pub fn is_shard(key: &[u8], value: &[u8]) -> bool
     }
 }
 
-// Marks the units of the pages of the row that a key and a value spell.
-fn mark_row(marks: &mut UnitMarks, width: Width, key: &[u8], value: &[u8])
-    requires { SpellsRowWithin width key.now value.now (length marks.old.owned) }
-    ensures { AreMarkedOn width key.now value.now marks.old marks.new }
+// Marks the units of the slots that pages name of the row that was read, if it is a blob's.
+fn mark_blob(marks: &mut UnitMarks, row: &Option<Row>)
+    requires { EndsBlobBy (length marks.old.owned) row.now }
+    ensures { AddsMarks row.now marks.old marks.new }
 {
-    if is_shard(key, value) {
-        marks.mark_spelled(width, value);
+    match row {
+        Some(
+            Row::Blob {
+                sbid: _sbid,
+                first,
+                slots,
+            },
+        ) => marks.mark_slots(first.number() as usize, slots.as_slice()),
+        _ => {}
     }
 }
 
-// Marks the units of all pages.
+// Marks the units of the pages, or of the slots, of the row that a key and a value spell.
+fn mark_row(
+    alloc: Global,
+    marks: &mut UnitMarks,
+    width: Width,
+    key: &[u8],
+    value: &[u8],
+) -> Result<(), AllocError>
+    requires { SpellsRowWithin width key.now value.now (length marks.old.owned) }
+    ensures { OnOk result (AreMarkedOn width key.now value.now marks.old marks.new) }
+{
+    if is_shard(key, value) {
+        marks.mark_spelled(width, value);
+        return Ok(());
+    }
+    if !is_blob_key(key) {
+        return Ok(());
+    }
+    let row = read_row(alloc, width, key, value)?;
+    mark_blob(marks, &row);
+    Ok(())
+}
+
+// Marks the units of all pages of objects' own, and of all slots that pages name.
 fn marks_of(alloc: Global, sup: &Super, rows: &RowTable) -> Result<UnitMarks, AllocError>
     requires { NoBadRow sup.now rows.now.rows }
     ensures { IfOk result (λ marks. MarksOwners (width_of sup.now) rows.now.rows marks
@@ -52,7 +84,13 @@ fn marks_of(alloc: Global, sup: &Super, rows: &RowTable) -> Result<UnitMarks, Al
 {
     let mut marks = UnitMarks::new(alloc, sup.units)?;
     for (key, value) in rows.range(b"", None) {
-        mark_row(&mut marks, sup.width(), key.as_slice(), value.as_slice());
+        mark_row(
+            alloc,
+            &mut marks,
+            sup.width(),
+            key.as_slice(),
+            value.as_slice(),
+        )?;
     }
     Ok(marks)
 }

@@ -1,11 +1,16 @@
 //! What a walk over rows in the order of their keys keeps of those that it has passed.
-ghost use Rattle.std.specs.Prelude.{◌≡◌, ◌↔◌, ◌+◌, ◌<◌, ◌≤◌, ◌^◌, Some, None, IsTrue, false};
+ghost use Rattle.std.specs.Prelude.{◌≡◌, ◌↔◌, ◌+◌, ◌<◌, ◌≤◌, ◌^◌, Some, None, IsTrue, OnOk, false};
 ghost use Rattle.std.specs.List.{AllByRecursion};
 ghost use Rattle.row_format.specs.Prelude.{page_end};
+ghost use Rattle.std.specs.FinMap as map;
 ghost use Rattle.row_check.specs.Bad.{IsShardOf, EndsBefore, IsEndOf, EndsWith, HasLowPages};
+ghost use Rattle.row_check.specs.Named.{row_named};
 
+use crate::blobs::note_row;
+use byte_maps::ByteMap;
 use onode_codec::Extent;
 use row_reading::Row;
+use std::alloc::{AllocError, Global};
 use unit_fields::{CollName, Name};
 
 /// What is kept of the rows that were passed, good and bad ones.
@@ -17,6 +22,8 @@ pub(crate) struct Passed {
     pub(crate) in_place: bool,
     /// Where it is a shard, the page at which the pages of its object's shards so far end: a shard behind it must not begin before.
     pub(crate) end: u64,
+    /// For each blob that a shard has named, under the key of the blob's row, the collection of the first such shard.
+    pub(crate) namers: ByteMap<CollName>,
 }
 
 pub(crate) fn is_of_object(
@@ -69,13 +76,14 @@ fn end_of(extents: &[Extent]) -> u64
 
 impl Passed {
     /// Before any row.
-    pub(crate) fn new() -> Passed
-        ensures { result ≡ record { last = None; in_place = false; end = 0 } }
+    pub(crate) fn new(alloc: Global) -> Passed
+        ensures { result ≡ record { last = None; in_place = false; end = 0; namers = map.empty } }
     {
         Passed {
             last: None,
             in_place: false,
             end: 0,
+            namers: ByteMap::new(alloc),
         }
     }
 
@@ -109,14 +117,17 @@ impl Passed {
     }
 
     /// The row was passed, which is in its place or isn't.
-    pub(crate) fn pass(&mut self, row: Row, in_place: bool)
+    pub(crate) fn pass(&mut self, alloc: Global, row: Row, in_place: bool) -> Result<(), AllocError>
         requires { HasLowPages row }
-        ensures last { self.new.last ≡ Some row }
-        ensures placed { self.new.in_place ≡ in_place }
-        ensures end { EndsWith self.old row self.new.end }
+        ensures last { OnOk result (self.new.last ≡ Some row) }
+        ensures placed { OnOk result (self.new.in_place ≡ in_place) }
+        ensures end { OnOk result (EndsWith self.old row self.new.end) }
+        ensures namers { OnOk result (self.new.namers ≡ row_named self.old.namers row) }
     {
         self.end = self.end_with(&row);
         self.in_place = in_place;
+        let noted = note_row(alloc, &mut self.namers, &row);
         self.last = Some(row);
+        noted
     }
 }

@@ -3,9 +3,10 @@ ghost use Rattle.std.specs.Prelude.{◌≡◌, ◌+◌, ◌<◌, ◌≤◌, ℕ,
 ghost use Rattle.unit_fields.specs.Prelude.{ReadsBytes, bytes_of};
 ghost use Rattle.row_format.specs.Prelude.{Extent};
 ghost use Rattle.onode_codec.specs.Reading.{SpellExtents};
-ghost use Rattle.row_check.specs.Marks.{no_marks, one_page_more, run_marked, extents_marked, SpellExtentsBelow, BeginsBelow, MarksExtent};
+ghost use Rattle.row_check.specs.Marks.{no_marks, one_page_more, run_marked, slot_marked, slots_marked, extents_marked, SpellExtentsBelow, BeginsBelow, MarksExtent};
 
 use onode_codec::{Head, Start};
+use row_reading::Slot;
 use std::alloc::{AllocError, Global};
 use std::marker::Model;
 use std::mem::replace;
@@ -65,6 +66,28 @@ impl UnitMarks {
         let _marks = &self.owned;
         for i in 0..count {
             self.mark(first + i);
+        }
+    }
+
+    // The slot on the unit is named, if its count says so.
+    fn mark_slot(&mut self, unit: usize, slot: &Slot)
+        requires { unit < length self.old.owned }
+        ensures { self.new ≡ slot_marked self.old unit slot.now }
+    {
+        if slot.count > 0 {
+            self.mark(unit);
+        }
+    }
+
+    /// The slots on the units from this one on are named, if their counts say so.
+    pub fn mark_slots(&mut self, first: usize, slots: &[Slot])
+        requires { first + length slots.now ≤ length self.old.owned }
+        ensures { self.new ≡ slots_marked self.old first slots.now }
+    {
+        // There is a mark for each of the units, so that their numbers fit.
+        let _marks = &self.owned;
+        for i in 0..slots.len() {
+            self.mark_slot(first + i, &slots[i]);
         }
     }
 

@@ -15,13 +15,13 @@ use Rattle.run_facts.proofs.SpaceUnits.{within_data}
 
 -- ---- what a plan keeps hangs on none of the old bytes that were read for it
 
-unread_suits : (names : List (List ℕ)) (view : Rows) (plan : Plan) (rows : Rows) → Suits names view (record plan { read = [] }) rows
-    → Suits names view plan rows
-unread_suits names view plan rows suits = record { agree = suits.agree; unmarked = suits.unmarked }
+unread_suits : (w : Width) (names : List (List ℕ)) (view : Rows) (plan : Plan) (rows : Rows) → Suits w names view (record plan { read = [] }) rows
+    → Suits w names view plan rows
+unread_suits w names view plan rows suits = record { agree = suits.agree; unmarked = suits.unmarked }
 
-unread_owns : (w : Width) (names : List (List ℕ)) (before after : Rows) (plan : Plan) → OwnsItsUnits w names before after plan
-    → OwnsItsUnits w names before after (record plan { read = [] })
-unread_owns w names before after plan owns =
+unread_owns : (w : Width) (before after : Rows) (plan : Plan) → OwnsItsUnits w before after plan
+    → OwnsItsUnits w before after (record plan { read = [] })
+unread_owns w before after plan owns =
     record { new = owns.new; left = owns.left; taken = owns.taken; was = owns.was; gone = owns.gone; once = owns.once }
 
 unread_keeps : (s : Super) (names : List (List ℕ)) (view : Rows) (plan : Plan) → PlanKeeps s names view plan
@@ -31,10 +31,11 @@ unread_keeps s names view plan keeps = record {
   fit = keeps.fit;
   fresh = keeps.fresh;
   ascend = keeps.ascend;
-  good = λ rows suits. keeps.good rows (unread_suits names view plan rows suits);
-  exact = λ rows suits. keeps.exact rows (unread_suits names view plan rows suits);
-  owns = λ rows suits is. unread_owns (width_of s) names rows (rows_after rows plan.ops) plan
-      (keeps.owns rows (unread_suits names view plan rows suits) is);
+  good = λ rows suits. keeps.good rows (unread_suits (width_of s) names view plan rows suits);
+  exact = λ rows suits. keeps.exact rows (unread_suits (width_of s) names view plan rows suits);
+  home = λ home rows suits. keeps.home home rows (unread_suits (width_of s) names view plan rows suits);
+  owns = λ rows suits is. unread_owns (width_of s) rows (rows_after rows plan.ops) plan
+      (keeps.owns rows (unread_suits (width_of s) names view plan rows suits) is);
 }
 
 -- ---- the submitted rows, and the free units over them

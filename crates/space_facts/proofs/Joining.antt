@@ -4,7 +4,7 @@ use Rattle.std.specs.List.{AllByRecursion}
 use Rattle.std.proofs.lemmas.List.Elements.{filter-append}
 use Rattle.meta_rows.specs.Prelude.{Rows, rows_after}
 use Rattle.meta_log.specs.declared.slot.Super.{Super}
-use Rattle.meta_log.specs.Prelude.{IsSuper}
+use Rattle.meta_log.specs.Prelude.{width_of, IsSuper}
 use Rattle.bitmap_freelist.specs.Bitmap.{AreBitmapRows}
 use Rattle.bitmap_freelist.proofs.GoodBitmaps.{bitmap_rows}
 use Rattle.store_image.specs.Prelude.{IsMarked}
@@ -17,7 +17,7 @@ use Rattle.selections.proofs.Selecting.{fair_front, fair_all, with_last}
 use Rattle.store_steps.specs.Prelude.{Intent, names_in, is_in, plan_of, rows_by, taken_by, IsPlannedOver, EachIsPlanned, AreTakenApart, CanJoin}
 use Rattle.space_facts.proofs.Lists.{all_rest, all_join, listed_all, all_listed, in_or_not, same_ends, times, times_none, times_ascending}
 use Rattle.space_facts.proofs.Rows.{is_own, none_shared, rows_append, taken_append, IsOf, agree_by, move_last, share_none}
-use Rattle.space_facts.proofs.Selected.{units_of, taken_last, times_taken, selected_taken, plan_unmarked, keeps_on_data, small_of, selected_of, selection_good, idle_unmarked}
+use Rattle.space_facts.proofs.Selected.{units_of, taken_last, times_taken, selected_taken, plan_unmarked, keeps_on_data, small_of, home_of, at_home, planned_of, last_of, selected_of, selection_good, idle_unmarked}
 
 none_in_front : {A : Type 0} (xs ys : List A) → xs ++ ys ≡ [] → xs ≡ []
 none_in_front [] ys e = refl
@@ -28,10 +28,13 @@ module _ (sup : Super) (rows : Rows) (xs : List Intent) (x : Intent) (limits : I
   abbrev Fair : List Intent → Type 0
   Fair some = IsFair is_in xs some
 
-  of_x : IsOf x
-  of_x = can.keeps.of
+  abbrev home : ℕ → List ℕ
+  home = home_of sup rows good
 
-  of_all : AllByRecursion IsOf xs
+  of_x : IsOf home x
+  of_x = planned_of sup rows xs good each xs x (fair_all is_in xs) can.keeps
+
+  of_all : AllByRecursion (IsOf home) xs
   of_all = selected_of sup rows xs good each xs (fair_all is_in xs)
 
   not_taken : (unit : ℕ) → Contains (units_of x) unit → ¬ Contains (taken_by xs) unit
@@ -48,9 +51,10 @@ module _ (sup : Super) (rows : Rows) (xs : List Intent) (x : Intent) (limits : I
 
   -- the rows of each selection that has all others of its collections suit it
   suits_there : (some : List Intent) → Fair some → ((n : List ℕ) → is_in n x ≡ true → under is_in n some ≡ under is_in n xs)
-      → Suits (names_in x) (rows_by rows xs) (plan_of x) (rows_by rows some)
+      → Suits (width_of sup) (names_in x) (rows_by rows xs) (plan_of x) (rows_by rows some)
   suits_there some fair whole = record {
-    agree = agree_by (names_in x) rows some xs of_x.named (selected_of sup rows xs good each some fair) of_all whole;
+    agree = agree_by (width_of sup) home (names_in x) rows some xs of_x.named (selected_of sup rows xs good each some fair) of_all
+        (at_home sup rows xs good each some fair) whole;
     unmarked = all_listed (λ u. ¬ IsMarked (rows_by rows some) u) (units_of x) (λ u c. stays_unmarked some fair u c);
   }
 
@@ -58,10 +62,10 @@ module _ (sup : Super) (rows : Rows) (xs : List Intent) (x : Intent) (limits : I
   planned_there : (some : List Intent) → Fair some → ((n : List ℕ) → is_in n x ≡ true → under is_in n some ≡ under is_in n xs)
       → IsPlannedOver sup (rows_by rows some) x
   planned_there some fair whole =
-      let suits : Suits (names_in x) (rows_by rows xs) (plan_of x) (rows_by rows some) = suits_there some fair whole in
+      let suits : Suits (width_of sup) (names_in x) (rows_by rows xs) (plan_of x) (rows_by rows some) = suits_there some fair whole in
       record {
         keeps = keeps_over sup (names_in x) (rows_by rows xs) (rows_by rows some) (plan_of x)
-            (agree_back (names_in x) (rows_by rows some) (rows_by rows xs) suits.agree) can.keeps;
+            (agree_back (width_of sup) (names_in x) (rows_by rows some) (rows_by rows xs) suits.agree) can.keeps;
         unmarked = suits.unmarked;
       }
 
@@ -69,7 +73,7 @@ module _ (sup : Super) (rows : Rows) (xs : List Intent) (x : Intent) (limits : I
   module _ (front back : List Intent) (rest : Fair (front ++ back))
       (whole : (n : List ℕ) → is_in n x ≡ true → under is_in n front ≡ under is_in n xs)
       (none : (n : List ℕ) → is_in n x ≡ true → under is_in n back ≡ []) where
-    pub joined_suits : Suits (names_in x) (rows_by rows xs) (plan_of x) (rows_by rows (front ++ back))
+    pub joined_suits : Suits (width_of sup) (names_in x) (rows_by rows xs) (plan_of x) (rows_by rows (front ++ back))
     joined_suits = suits_there (front ++ back) rest (λ n t. filter-append (is_in n) front back
         ∙ ap (λ l. under is_in n front ++ l) (none n t) ∙ append-nil (under is_in n front) ∙ whole n t)
 
@@ -77,8 +81,8 @@ module _ (sup : Super) (rows : Rows) (xs : List Intent) (x : Intent) (limits : I
     joined_last =
         let table : AreBitmapRows (rows_by rows front) =
         bitmap_rows sup (rows_by rows front) (selection_good sup rows xs good each front (fair_front is_in xs front back rest)).good in
-        let of_back : AllByRecursion IsOf back = all_rest IsOf front back (selected_of sup rows xs good each (front ++ back) rest) in
-        rows_append rows front (x ∷ back) ∙ move_last (rows_by rows front) x back of_x of_back (share_none x back none) table
+        let of_back : AllByRecursion (IsOf home) back = all_rest (IsOf home) front back (selected_of sup rows xs good each (front ++ back) rest) in
+        rows_append rows front (x ∷ back) ∙ move_last home (rows_by rows front) x back of_x of_back (share_none x back none) table
         ∙ ap (λ r. rows_after r x.ops) (sym (rows_append rows front back))
 
   -- and another one behind it, that isn't in its collections, is planned as it was
@@ -113,9 +117,11 @@ module _ (sup : Super) (rows : Rows) (xs : List Intent) (x : Intent) (limits : I
         plan_unmarked sup (names_in x) (rows_by rows xs) (plan_of x) can.keeps before (joined_suits front back rest whole none_back)
         (selection_good sup rows xs good each (front ++ back) rest) unit small out other
 
-    agree_then : AgreeOn (names_in y) before after
-    agree_then = agree_back (names_in y) after before
-        (kept_apart (names_in x) (names_in y) (units_of x) x.released before x.ops of_x py.keeps.of.named (none_shared x y share_last))
+    agree_then : AgreeOn (width_of sup) (names_in y) before after
+    agree_then = agree_back (width_of sup) (names_in y) after before
+        (kept_apart (width_of sup) home (names_in x) (names_in y) (units_of x) x.released before x.ops
+        (at_home sup rows xs good each (front ++ back) rest) of_x (last_of sup rows xs good each (front ++ back) y fair).named
+        (none_shared x y share_last))
 
     behind_it : IsPlannedOver sup (rows_by rows (front ++ x ∷ back)) y
     behind_it = subst (λ r. IsPlannedOver sup r y) (sym (joined_last front back rest whole none_back)) (record {
@@ -150,7 +156,7 @@ module _ (sup : Super) (rows : Rows) (xs : List Intent) (x : Intent) (limits : I
   ]
 
   pub suits_last : (some : List Intent) (has : HasLast is_in xs x some)
-      → Suits (names_in x) (rows_by rows xs) (plan_of x) (rows_by rows (has.front ++ has.back))
+      → Suits (width_of sup) (names_in x) (rows_by rows xs) (plan_of x) (rows_by rows (has.front ++ has.back))
   suits_last some has = joined_suits has.front has.back has.without has.behind has.none
 
   pub rows_last : (some : List Intent) (has : HasLast is_in xs x some)

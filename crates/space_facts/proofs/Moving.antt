@@ -17,7 +17,7 @@ use Rattle.store_steps.specs.Prelude.{Intent, is_in, rows_by, taken_by, IsPlanne
 use Rattle.space_facts.specs.Owning.{OwnTheirUnits}
 use Rattle.space_facts.proofs.Lists.{all_listed, listed_all, times_some}
 use Rattle.space_facts.proofs.Rows.{each_named, rows_append, taken_append, IsOf, intents_change_places, table_stays}
-use Rattle.space_facts.proofs.Selected.{times_joined, selected_times, selected_taken, small_of, selected_of, selected_on_data, selection_good, selection_exact, selection_owns}
+use Rattle.space_facts.proofs.Selected.{times_joined, selected_times, selected_taken, small_of, home_of, selected_of, selected_on_data, selection_good, selection_exact, selection_owns}
 
 -- ---- nothing is under way
 
@@ -40,8 +40,9 @@ pub rows_alike : (sup : Super) (rows : Rows) (xs ys : List Intent) → IsComplet
     → rows_by rows xs ≡ rows_by rows ys
 rows_alike sup rows xs ys same good each =
     as_fold rows xs
-    ∙ fold_alike is_in (λ r x. rows_after r x.ops) AreBitmapRows IsOf (λ r x of table. table_stays r x of table)
-    (λ r x y of_x of_y table share. sym (intents_change_places r x y of_x of_y table share)) each_named rows xs ys
+    ∙ fold_alike is_in (λ r x. rows_after r x.ops) AreBitmapRows (IsOf (home_of sup rows good))
+    (λ r x of table. table_stays (home_of sup rows good) r x of table)
+    (λ r x y of_x of_y table share. sym (intents_change_places (home_of sup rows good) r x y of_x of_y table share)) each_named rows xs ys
     (selected_of sup rows xs good each xs (fair_all is_in xs))
     (selected_of sup rows ys good (each_alike sup rows xs ys same each) ys (fair_all is_in ys)) (bitmap_rows sup rows good.good) (λ n. sym (same n))
     ∙ sym (as_fold rows ys)

@@ -2,16 +2,16 @@
 use Rattle.std.proofs.Common.{◌≡◌, ◌⊎◌, inl, inr, ℕ, ◌+◌, ◌<◌, ◌≤◌, ◌^◌, List, [], ◌∷◌, ◌++◌, map, Contains, sym, ap, subst, ◌∙◌, append-nil, arith}
 use Rattle.std.specs.List.{AllByRecursion}
 use Rattle.std.proofs.lemmas.List.Elements.{Contains-append_left, Contains-append_right, Contains-append_cases}
-use Rattle.unit_fields.specs.declared.width.Width.{Width}
 use Rattle.meta_rows.specs.Prelude.{Rows, rows_after}
 use Rattle.meta_log.specs.declared.slot.Super.{Super}
 use Rattle.meta_log.specs.Prelude.{width_of, IsSuper}
-use Rattle.store_image.specs.Prelude.{page_of, IsDataUnit, IsOwned, IsMarked, IsLeaked, IsExactAs}
+use Rattle.store_image.specs.Prelude.{IsDataUnit, IsOwned, IsMarked, IsLeaked, IsExactAs}
 use Rattle.store_image.proofs.Prelude.{as_itself, exact_onward}
 use Rattle.unit_allocator.proofs.Lists.{Contains-cases}
 use Rattle.plan_rows.specs.declared.plan.FreshUnit.{FreshUnit}
 use Rattle.plan_rows.specs.declared.plan.Plan.{Plan}
-use Rattle.plan_rows.specs.Prelude.{fresh_units, IsOwnedBy, IsGood, Suits, OwnsItsUnits, PlanKeeps}
+use Rattle.plan_rows.specs.Prelude.{AreAtHome, fresh_units, IsGood, Suits, OwnsItsUnits, PlanKeeps}
+use Rattle.plan_rows.proofs.Homes.{have_homes}
 use Rattle.plan_rows.proofs.Apart.{bits_turned}
 use Rattle.plan_rows.proofs.Agreeing.{agree_itself}
 use Rattle.selections.specs.Fair.{IsFair}
@@ -88,7 +88,7 @@ selected_taken all some fair unit c =
 -- ---- one plan over good rows
 
 module _ (sup : Super) (names : List (List ℕ)) (view : Rows) (plan : Plan) (keeps : PlanKeeps sup names view plan) (rows : Rows)
-    (suits : Suits names view plan rows) (good : IsGood sup rows) where
+    (suits : Suits (width_of sup) names view plan rows) (good : IsGood sup rows) where
   pub plan_good : IsGood sup (rows_after rows plan.ops)
   plan_good = record {
     good = keeps.good rows suits good;
@@ -102,10 +102,6 @@ module _ (sup : Super) (names : List (List ℕ)) (view : Rows) (plan : Plan) (ke
     | inl owned ↦ elim ((keeps.owns rows suits good).new unit owned) [ inl was ↦ out (good.exact.owned_marked unit was) | inr c ↦ other c ]
     | inr leaked ↦ out leaked.0.marked
   ]
-
--- who is owned by some is owned
-pub owned_by : (w : Width) (names : List (List ℕ)) (rows : Rows) (unit : ℕ) → IsOwnedBy w names rows unit → IsOwned w rows unit
-owned_by w names rows unit o = (page_of o.coll o.object o.page, o.owns)
 
 fresh_on_data : (sup : Super) (fresh : List FreshUnit) (unit : ℕ) → AllByRecursion (λ f. IsDataUnit sup f.unit) fresh
     → Contains (map (λ f. f.unit) fresh) unit → IsDataUnit sup unit
@@ -125,6 +121,14 @@ small_of sup unit limits on = omega (arith, on.1, limits.units_most)
 
 -- ---- the rows of fair selections
 
+-- the homes of blobs, as the committed rows name them
+pub home_of : (sup : Super) (rows : Rows) → IsGood sup rows → ℕ → List ℕ
+home_of sup rows good = (have_homes sup rows good.good).0
+
+at_home_first : (sup : Super) (rows : Rows) (good : IsGood sup rows) → AreAtHome (width_of sup) (home_of sup rows good) rows
+unfolding home_of
+at_home_first sup rows good = (have_homes sup rows good.good).1
+
 module _ (sup : Super) (rows : Rows) (xs : List Intent) (good : IsGood sup rows) (each : EachIsPlanned sup rows xs) where
   abbrev Fair : List Intent → Type 0
   Fair some = IsFair is_in xs some
@@ -133,9 +137,6 @@ module _ (sup : Super) (rows : Rows) (xs : List Intent) (good : IsGood sup rows)
   each_of : (P : Intent → Type 0) → ((some : List Intent) (x : Intent) → Fair (some ++ x ∷ []) → P x) → (some : List Intent) → Fair some
       → AllByRecursion P some
   each_of P one = by_fronts is_in xs (AllByRecursion P) tt (λ some x fair all. all_join P some (x ∷ []) all (one some x fair, tt))
-
-  pub selected_of : (some : List Intent) → Fair some → AllByRecursion IsOf some
-  selected_of = each_of IsOf (λ some x fair. (each some x fair).keeps.of)
 
   pub selected_on_data : (some : List Intent) → Fair some → (unit : ℕ) → Contains (taken_by some) unit → IsDataUnit sup unit
   selected_on_data = by_fronts is_in xs (λ some. (unit : ℕ) → Contains (taken_by some) unit → IsDataUnit sup unit)
@@ -149,8 +150,9 @@ module _ (sup : Super) (rows : Rows) (xs : List Intent) (good : IsGood sup rows)
       ]
 
   pub suits_at : (some : List Intent) (x : Intent) → Fair (some ++ x ∷ [])
-      → Suits (names_in x) (rows_by rows some) (plan_of x) (rows_by rows some)
-  suits_at some x fair = record { agree = agree_itself (names_in x) (rows_by rows some); unmarked = (each some x fair).unmarked }
+      → Suits (width_of sup) (names_in x) (rows_by rows some) (plan_of x) (rows_by rows some)
+  suits_at some x fair =
+      record { agree = agree_itself (width_of sup) (names_in x) (rows_by rows some); unmarked = (each some x fair).unmarked }
 
   after_one : (some : List Intent) (x : Intent) → rows_by rows (some ++ x ∷ []) ≡ rows_after (rows_by rows some) x.ops
   after_one some x = rows_append rows some (x ∷ [])
@@ -164,7 +166,7 @@ module _ (sup : Super) (rows : Rows) (xs : List Intent) (good : IsGood sup rows)
       more : (some : List Intent) (x : Intent) → Fair (some ++ x ∷ []) → StayGood (rows_by rows some) → StayGood (rows_by rows (some ++ x ∷ []))
       more some x fair before =
           let keeps : PlanKeeps sup (names_in x) (rows_by rows some) (plan_of x) = (each some x fair).keeps in
-          let suits : Suits (names_in x) (rows_by rows some) (plan_of x) (rows_by rows some) = suits_at some x fair in
+          let suits : Suits (width_of sup) (names_in x) (rows_by rows some) (plan_of x) (rows_by rows some) = suits_at some x fair in
           subst StayGood (sym (after_one some x)) (
             plan_good sup (names_in x) (rows_by rows some) (plan_of x) keeps (rows_by rows some) suits before.0,
             exact_onward (width_of sup) rows (rows_by rows some) (rows_after (rows_by rows some) x.ops) before.1
@@ -177,10 +179,28 @@ module _ (sup : Super) (rows : Rows) (xs : List Intent) (good : IsGood sup rows)
   pub selection_exact : (some : List Intent) → Fair some → IsExactAs (width_of sup) rows (rows_by rows some)
   selection_exact some fair = (selection_stays some fair).1
 
+  -- blobs stay where they are at home
+  pub at_home : (some : List Intent) → Fair some → AreAtHome (width_of sup) (home_of sup rows good) (rows_by rows some)
+  at_home = by_fronts is_in xs (λ some. AreAtHome (width_of sup) (home_of sup rows good) (rows_by rows some)) (at_home_first sup rows good)
+      (λ some x fair before. subst (AreAtHome (width_of sup) (home_of sup rows good)) (sym (after_one some x))
+      ((each some x fair).keeps.home (home_of sup rows good) (rows_by rows some) (suits_at some x fair)
+      (selection_good some (fair_front is_in xs some (x ∷ []) fair)) before))
+
+  -- a plan over the rows of a selection is of its collections
+  pub planned_of : (some : List Intent) (x : Intent) → Fair some → PlanKeeps sup (names_in x) (rows_by rows some) (plan_of x)
+      → IsOf (home_of sup rows good) x
+  planned_of some x fair keeps = keeps.of (home_of sup rows good) (λ c sbid among named. at_home some fair c sbid named)
+
+  pub last_of : (some : List Intent) (x : Intent) → Fair (some ++ x ∷ []) → IsOf (home_of sup rows good) x
+  last_of some x fair = planned_of some x (fair_front is_in xs some (x ∷ []) fair) (each some x fair).keeps
+
+  pub selected_of : (some : List Intent) → Fair some → AllByRecursion (IsOf (home_of sup rows good)) some
+  selected_of = each_of (IsOf (home_of sup rows good)) last_of
+
   owns_at : (some : List Intent) (x : Intent) → Fair (some ++ x ∷ [])
-      → OwnsItsUnits (width_of sup) (names_in x) (rows_by rows some) (rows_by rows (some ++ x ∷ [])) (plan_of x)
+      → OwnsItsUnits (width_of sup) (rows_by rows some) (rows_by rows (some ++ x ∷ [])) (plan_of x)
   owns_at some x fair =
-      subst (λ r. OwnsItsUnits (width_of sup) (names_in x) (rows_by rows some) r (plan_of x)) (sym (after_one some x))
+      subst (λ r. OwnsItsUnits (width_of sup) (rows_by rows some) r (plan_of x)) (sym (after_one some x))
       ((each some x fair).keeps.owns (rows_by rows some) (suits_at some x fair)
       (selection_good some (fair_front is_in xs some (x ∷ []) fair)))
 
@@ -193,17 +213,15 @@ module _ (sup : Super) (rows : Rows) (xs : List Intent) (good : IsGood sup rows)
           → IsLeaked (width_of sup) (rows_by rows (some ++ x ∷ [])) unit
       more some x fair before =
           let p : IsPlannedOver sup (rows_by rows some) x = each some x fair in
-          let owns : OwnsItsUnits (width_of sup) (names_in x) (rows_by rows some) (rows_by rows (some ++ x ∷ [])) (plan_of x) =
-          owns_at some x fair in
+          let owns : OwnsItsUnits (width_of sup) (rows_by rows some) (rows_by rows (some ++ x ∷ [])) (plan_of x) = owns_at some x fair in
           let not_fresh : ¬ Contains (units_of x) unit =
           λ c. listed_all (λ u. ¬ IsMarked (rows_by rows some) u) (units_of x) unit p.unmarked c before.marked in
-          let not_released : ¬ Contains x.released unit =
-          λ c. before.unowned (owned_by (width_of sup) (names_in x) (rows_by rows some) unit (owns.was unit c)) in
+          let not_released : ¬ Contains x.released unit = λ c. before.unowned (owns.was unit c) in
           record {
             is_unit = before.is_unit;
             marked = subst (λ r. IsMarked r unit) (sym (after_one some x))
-                ((bits_turned (names_in x) (units_of x) x.released (rows_by rows some) x.ops p.keeps.of unit before.is_unit).1
-                (inl (before.marked, λ either. elim either [ inl c ↦ not_fresh c | inr c ↦ not_released c ])));
+                ((bits_turned (home_of sup rows good) (names_in x) (units_of x) x.released (rows_by rows some) x.ops (last_of some x fair) unit
+                before.is_unit).1 (inl (before.marked, λ either. elim either [ inl c ↦ not_fresh c | inr c ↦ not_released c ])));
             unowned = λ owned. elim (owns.new unit owned) [ inl was ↦ before.unowned was | inr c ↦ not_fresh c ];
           }
 
@@ -226,7 +244,7 @@ module _ (sup : Super) (rows : Rows) (xs : List Intent) (good : IsGood sup rows)
     }
 
     module _ (some : List Intent) (x : Intent) (fair : Fair (some ++ x ∷ [])) (before : Own some) (unit : ℕ) where
-      owns : OwnsItsUnits (width_of sup) (names_in x) (rows_by rows some) (rows_by rows (some ++ x ∷ [])) (plan_of x)
+      owns : OwnsItsUnits (width_of sup) (rows_by rows some) (rows_by rows (some ++ x ∷ [])) (plan_of x)
       owns = owns_at some x fair
 
       -- what the first ones released the next one doesn't take
@@ -266,18 +284,14 @@ module _ (sup : Super) (rows : Rows) (xs : List Intent) (good : IsGood sup rows)
           → IsOwned (width_of sup) (rows_by rows (some ++ x ∷ [])) unit ⊎ Contains (released_by (some ++ x ∷ [])) unit
       taken_one c = elim (taken_cases some x unit c) [
         | inl old ↦ onward (before.taken unit old)
-        | inr new ↦ inl (owned_by (width_of sup) (names_in x) (rows_by rows (some ++ x ∷ [])) unit (owns.taken unit new))
+        | inr new ↦ inl (owns.taken unit new)
       ]
-
-      -- it was owned where the next one released it
-      owned_there : Contains x.released unit → IsOwned (width_of sup) (rows_by rows some) unit
-      owned_there r = owned_by (width_of sup) (names_in x) (rows_by rows some) unit (owns.was unit r)
 
       was_one : Contains (released_by (some ++ x ∷ [])) unit
           → IsOwned (width_of sup) rows unit ⊎ Contains (taken_by (some ++ x ∷ [])) unit
       was_one r = elim (released_cases some x unit r) [
         | inl old ↦ earlier (before.was unit old)
-        | inr new ↦ earlier (before.new unit (owned_there new))
+        | inr new ↦ earlier (before.new unit (owns.was unit new))
       ]
 
       gone_one : Contains (released_by (some ++ x ∷ [])) unit → ¬ IsOwned (width_of sup) (rows_by rows (some ++ x ∷ [])) unit
@@ -292,7 +306,7 @@ module _ (sup : Super) (rows : Rows) (xs : List Intent) (good : IsGood sup rows)
           arith,
           times_released some x unit,
           times_once unit (released_by some) (before.once unit),
-          times_none unit x.released (λ new. before.gone unit old (owned_there new)),
+          times_none unit x.released (λ new. before.gone unit old (owns.was unit new)),
         )
         | inr out ↦ omega (
           arith,

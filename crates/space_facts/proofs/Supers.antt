@@ -45,6 +45,7 @@ plan_alike s t a names view plan keeps = record {
   ascend = keeps.ascend;
   good = λ rows suits is. none_bad s t a _ (keeps.good rows suits (good_alike t s (turned s t a) rows is));
   exact = λ rows suits is. keeps.exact rows suits (good_alike t s (turned s t a) rows is);
+  home = λ home rows suits is. keeps.home home rows suits (good_alike t s (turned s t a) rows is);
   owns = λ rows suits is. keeps.owns rows suits (good_alike t s (turned s t a) rows is);
 }
 

@@ -76,7 +76,7 @@ pub fn one_more_may_come_last()
         → rows_by rows some ≡ rows_after (rows_by rows (has.front ++ has.back)) x.ops }
     ensures suits { (sup : Super) (rows : Rows) (xs some : List Intent) (x : Intent) → IsSuper sup → IsGood sup rows → EachIsPlanned sup rows xs
         → AreTakenApart rows xs → CanJoin sup rows xs x → (has : HasLast is_in xs x some)
-        → Suits (names_in x) (rows_by rows xs) (plan_of x) (rows_by rows (has.front ++ has.back)) }
+        → Suits (width_of sup) (names_in x) (rows_by rows xs) (plan_of x) (rows_by rows (has.front ++ has.back)) }
 {}
 
 /// All this depends on the order within each collection alone: one that is the first in each of its collections may be taken to the front.

@@ -5,7 +5,7 @@ use Rattle.meta_rows.specs.Prelude.{Rows}
 use Rattle.meta_log.specs.declared.slot.Super.{Super}
 use Rattle.meta_log.specs.Prelude.{width_of}
 use Rattle.row_format.specs.Prelude.{coll_key, onode_key, shared_key, Body, private, shared, Extent, Slot, Row, collection, onode, shard, attribute, omap_header, omap_pair, blob, bitmap, as_row, shard_in}
-use Rattle.store_image.specs.Prelude.{HasKey, HasRow, HasOnode, HasShard, IsDataUnit, AreData, IsOnData, HasSlots, IsNamedEarlier, IsShardInPlace, HasObject, IsInPlace, IsGoodRow, NoBadRow}
+use Rattle.store_image.specs.Prelude.{HasKey, HasRow, HasOnode, HasShard, IsDataUnit, AreData, IsOnData, HasSlots, IsNamedBy, IsNamedEarlier, IsShardInPlace, HasObject, IsInPlace, IsGoodRow, NoBadRow}
 
 -- Of these rows of a store, others of this store have what rows need: the same collections, objects and blobs at least, no other sizes, shards or
 -- slots, and at least these units for data.
@@ -31,16 +31,17 @@ module _ (s t : Super) (rows after : Rows) (has : Carries s t rows after) where
   on_data (private unit csums) is = has.are_data unit (length csums) is
   on_data (shared sbid first count) is = is
 
-  was_earlier : (c : List ℕ) (sbid : ℕ) → IsNamedEarlier (width_of t) after c sbid → IsNamedEarlier (width_of s) rows c sbid
-  was_earlier c sbid is = record {
-    coll = is.coll;
+  was_named : (c : List ℕ) (sbid : ℕ) → IsNamedBy (width_of t) after c sbid → IsNamedBy (width_of s) rows c sbid
+  was_named c sbid is = record {
     object = is.object;
     page = is.page;
     extents = is.extents;
-    has_shard = has.was_shard is.coll is.object is.page is.extents is.has_shard;
-    before = is.before;
+    has_shard = has.was_shard c is.object is.page is.extents is.has_shard;
     names = is.names;
   }
+
+  was_earlier : (c : List ℕ) (sbid : ℕ) → IsNamedEarlier (width_of t) after c sbid → IsNamedEarlier (width_of s) rows c sbid
+  was_earlier c sbid is = record { coll = is.coll; before = is.before; named = was_named is.coll sbid is.named }
 
   has_slots : (c : List ℕ) (b : Body) → HasSlots (width_of s) rows c b → HasSlots (width_of t) after c b
   has_slots c (private unit csums) is = tt
@@ -66,7 +67,7 @@ module _ (s t : Super) (rows after : Rows) (has : Carries s t rows after) where
   carried (omap_header c o value) is = has_object c o is
   carried (omap_pair c o key value) is = has_object c o is
   carried (blob sbid first slots) is =
-      record { to_come = is.to_come; low = is.low; on_data = has.are_data first (length slots) is.on_data; named = is.named; blank = is.blank }
+      record { low = is.low; on_data = has.are_data first (length slots) is.on_data; named = is.named; blank = is.blank }
   carried (bitmap r bits) is = λ unit here one. has.of_data unit (is unit here one)
 
   pub good_carried : (key value : List ℕ) → IsGoodRow s rows key value → IsGoodRow t after key value

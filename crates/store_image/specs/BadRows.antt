@@ -16,20 +16,24 @@ use Rattle.store_image.specs.Owners.{IsDataUnit}
 abbrev pub AreData : Super → ℕ → ℕ → Type 0
 AreData s first count = (data_unit s ≤ first) × (first + count ≤ s.units)
 
--- The pages stand on data units. (Those on slots are to do so by their blob's row; so far none may.)
+-- The pages stand on data units. (Those on slots do by their blob's row.)
 abbrev pub IsOnData : Super → Body → Type 0
 IsOnData s (private unit csums) = AreData s unit (length csums)
-IsOnData s (shared sbid first count) = ⊥
+IsOnData s (shared sbid first count) = Unit {0}
+
+-- a shard of the collection names the blob
+pub record IsNamedBy (w : Width) (rows : Rows) (c : List ℕ) (sbid : ℕ) : Type 0 where
+  pub object : List ℕ
+  pub page : ℕ
+  pub extents : List Extent
+  pub has_shard : HasShard w rows c object page extents
+  pub names : Any (λ e. NamesBlob sbid e.body) extents
 
 -- a shard of another collection, whose name comes before this one, names the blob
 pub record IsNamedEarlier (w : Width) (rows : Rows) (c : List ℕ) (sbid : ℕ) : Type 0 where
   pub coll : List ℕ
-  pub object : List ℕ
-  pub page : ℕ
-  pub extents : List Extent
-  pub has_shard : HasShard w rows coll object page extents
   pub before : byte_order coll c ≡ Less
-  pub names : Any (λ e. NamesBlob sbid e.body) extents
+  pub named : IsNamedBy w rows coll sbid
 
 -- The slots are those of a blob that has a row, which has so many if it says any, and that no earlier collection names.
 abbrev pub HasSlots : Width → Rows → List ℕ → Body → Type 0
@@ -62,9 +66,8 @@ AreOfData s r bits = (unit : ℕ) → bit_row unit ≡ r → bit_in bits unit �
 abbrev pub IsBlank : Slot → Type 0
 IsBlank x = x.count ≡ 0 → x.csum ≡ 0
 
--- What a blob needs: its number is low, its units are data units, and pages name some of its slots. So far no store may have one.
+-- What a blob needs: its number is low, its units are data units, and pages name some of its slots.
 pub record IsBlobInPlace (s : Super) (sbid first : ℕ) (slots : List Slot) : Type 0 where
-  pub to_come : ⊥
   pub low : sbid < 2 ^ 62
   pub on_data : AreData s first (length slots)
   pub named : Any (λ x. 0 < x.count) slots

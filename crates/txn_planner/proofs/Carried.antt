@@ -16,7 +16,7 @@ use Rattle.row_format.specs.Prelude.{Place}
 use Rattle.store_image.specs.Prelude.{PageUnit}
 use Rattle.number_map.proofs.Laws.{same}
 use Rattle.plan_drafts.specs.declared.draft.Draft.{Draft}
-use Rattle.plan_drafts.specs.Prelude.{Edit, edit_of, is_touched, drafted, units_released, page_unit, Layout, or_new, object_of, edit_on, draft_after, CollDraft, with_op, IsOnObject, IsTaken}
+use Rattle.plan_drafts.specs.Prelude.{Edit, edit_of, is_touched, drafted, units_released, slots_released, page_unit, Layout, or_new, object_of, edit_on, pages_left, draft_after, CollDraft, with_op, IsOnObject, IsTaken}
 use Rattle.page_edits.specs.Takings.{IsNumbered}
 use Rattle.page_edits.specs.Writes.{op_at}
 use Rattle.page_edits.proofs.DraftedPages.{kept_touched, kept_same, uncleared_same}
@@ -46,6 +46,12 @@ or_false false = refl
 where_none : (es : List (ℕ × Place)) → where_key nat_cmp (λ page. false) es ≡ []
 where_none [] = refl
 where_none (e ∷ es) = where_none es
+
+-- the pages that an edit touches leave their places
+left_by : (op : Op) (x : Option Draft) (e : Edit) → edit_on op x ≡ Some e
+    → pages_left op x ≡ where_key nat_cmp (is_touched e) (entries (or_new x).kept)
+left_by (Remove o) x e is = absurd cc
+left_by op x e is = ap (λ z. option_map_or (λ e. where_key nat_cmp (is_touched e) (entries (or_new x).kept)) z []) is
 
 -- a touch leaves an object as it is that is there
 touch_same : (o : List ℕ) (n : ℕ) (x : Option Draft) → is_some x ≡ true → Some (drafted (edit_of (Touch o) (or_new x).size) n (or_new x)) ≡ x
@@ -80,12 +86,14 @@ module _ (w : Width) (rows : Rows) (c : List ℕ) (layouts : List ℕ → Option
   by_move m = moved w rows c layouts op d old new reached_x.kept m (standing_of rows c layouts d old was)
 
   -- nothing of the state changes
-  pub unchanged : new ≡ old → draft_after op d ≡ x → IsIdle op d → Carries rows c layouts ops op d old new
-  unchanged is made idle = record {
+  pub unchanged : new ≡ old → draft_after op d ≡ x → pages_left op x ≡ [] → IsIdle op d → Carries rows c layouts ops op d old new
+  unchanged is made leave idle = record {
     stand = stayed rows c layouts op d old new (record {
       made = made;
+      leave = leave;
       objects = ap (λ (p : Planning). p.objects) is;
       left = ap (λ (p : Planning). p.left.items) is;
+      unshared = ap (λ (p : Planning). p.unshared.items) is;
     }) (standing_of rows c layouts d old was);
     adds = nothing_added ops op d old new idle (ap (λ (p : Planning). p.writes.items) is) (ap (λ (p : Planning). p.places.items) is)
         (ap (λ (p : Planning). p.taken) is);
@@ -131,16 +139,18 @@ module _ (w : Width) (rows : Rows) (c : List ℕ) (layouts : List ℕ → Option
         is = is;
         test = is_touched e;
         cut = cut;
+        leave = left_by op x e edits;
         objects = h.puts.objects ∙ ap (λ t. finite.insert (finite.remove old.objects o) o t)
             (λ i. record h.before { now = put_now i; left = h.before.left || has_any (tells.left i) });
         left = h.adds.left ∙ ap (λ es. old.left.items ++ flat_map (λ p. units_released p.1) es) tells.left;
+        unshared = h.adds.unshared ∙ ap (λ es. old.unshared.items ++ flat_map (λ p. slots_released p.1) es) tells.left;
       });
       adds = edit_added ops op at d lt op_is name num old new h.edited edits tells was.taken h.adds;
       there = h.puts.there;
     }
 
   -- it is missing, and stays so
-  module _ (made : draft_after op d ≡ x) (idle : IsIdle op d) (h : LeavesObject w rows c op old new) where
+  module _ (made : draft_after op d ≡ x) (leave : pages_left op x ≡ []) (idle : IsIdle op d) (h : LeavesObject w rows c op old new) where
     abbrev none_pass : ℕ → Bool
     none_pass page = false
 
@@ -160,24 +170,30 @@ module _ (w : Width) (rows : Rows) (c : List ℕ) (layouts : List ℕ → Option
         is = missing_is;
         test = none_pass;
         cut = record { none = λ page never. absurd cc; same = λ page none. ap (λ z. finite.get (or_new z).kept page) made };
+        leave = leave ∙ sym no_page;
         objects = h.puts.objects ∙ ap (λ t. finite.insert (finite.remove old.objects o) o t)
             (λ i. record h.before { now = (missing_is.now_is ∙ sym made) i; left = left_is i });
         left = h.nothing.left ∙ append_none old.left.items ∙ ap (λ es. old.left.items ++ flat_map (λ p. units_released p.1) es) (sym no_page);
+        unshared = h.nothing.unshared ∙ append_none old.unshared.items
+            ∙ ap (λ es. old.unshared.items ++ flat_map (λ p. slots_released p.1) es) (sym no_page);
       });
       adds = nothing_added ops op d old new idle h.nothing.writes h.nothing.places h.nothing.taken;
       there = h.puts.there;
     }
 
   -- it goes
-  pub dropped : draft_after op d ≡ None → IsIdle op d → DropsObject w rows c o old new → Carries rows c layouts ops op d old new
-  dropped made idle h = record {
+  pub dropped : draft_after op d ≡ None → pages_left op x ≡ entries (or_new x).kept → IsIdle op d → DropsObject w rows c o old new
+      → Carries rows c layouts ops op d old new
+  dropped made leave idle h = record {
     stand = by_move (record {
       before = h.before;
       is = is;
       test = λ page. true;
       cut = record { none = λ page all. ap (λ z. finite.get (or_new z).kept page) made ∙ finite.get-empty nat_cmp page; same = λ page never. absurd cc };
+      leave = leave ∙ sym (where_all (entries (or_new x).kept));
       objects = h.puts.objects ∙ ap (λ t. finite.insert (finite.remove old.objects o) o t) (λ i. record h.before { now = sym made i; left = h.before.left || has_any (all i) });
       left = h.left ∙ ap (λ es. old.left.items ++ flat_map (λ p. units_released p.1) es) all;
+      unshared = h.unshared ∙ ap (λ es. old.unshared.items ++ flat_map (λ p. slots_released p.1) es) all;
     });
     adds = nothing_added ops op d old new idle h.writes h.places h.taken;
     there = h.puts.there;
@@ -204,7 +220,7 @@ module _ (w : Width) (rows : Rows) (c : List ℕ) (layouts : List ℕ → Option
   carried (CloneRange u to src len dst) of name taken on ch = absurd on
   carried (Touch u) of name taken on (inl k) =
       unchanged w rows c layouts have ops (Touch u) at d on_is lt of name taken r old new was k.same
-      (touch_same u d.taken (d.layout u) (k.there w layouts d was have)) (idle_touch u)
+      (touch_same u d.taken (d.layout u) (k.there w layouts d was have)) (where_none (entries (or_new (d.layout u)).kept)) (idle_touch u)
   carried (Touch u) of name taken on (inr h) = edited w rows c layouts have ops (Touch u) at d on_is lt of name taken r old new was h
   carried (Write u off bytes) of name taken on h = edited w rows c layouts have ops (Write u off bytes) at d on_is lt of name taken r old new was h
   carried (Zero u off len) of name taken on h = edited w rows c layouts have ops (Zero u off len) at d on_is lt of name taken r old new was h
@@ -212,8 +228,9 @@ module _ (w : Width) (rows : Rows) (c : List ℕ) (layouts : List ℕ → Option
   carried (Truncate u to) of name taken on (inr h) =
       let none : d.layout u ≡ None = sym (h.stands layouts d was have).now_is ∙ h.missing in
       left_missing w rows c layouts have ops (Truncate u to) at d on_is lt of name taken r old new was
-      (ap (λ z. option_map_or (λ e. Some (drafted e d.taken (or_new z))) (edit_on (Truncate u to) z) z) none ∙ sym none) (idle_by (Truncate u to) d (ap (λ z. edit_on (Truncate u to) z) none)) h
+      (ap (λ z. option_map_or (λ e. Some (drafted e d.taken (or_new z))) (edit_on (Truncate u to) z) z) none ∙ sym none) (ap (pages_left (Truncate u to)) none)
+      (idle_by (Truncate u to) d (ap (λ z. edit_on (Truncate u to) z) none)) h
   carried (Remove u) of name taken on h =
-      dropped w rows c layouts have ops (Remove u) at d on_is lt of name taken r old new was refl (idle_by (Remove u) d refl) h
+      dropped w rows c layouts have ops (Remove u) at d on_is lt of name taken r old new was refl refl (idle_by (Remove u) d refl) h
   carried op of name taken on same =
-      unchanged w rows c layouts have ops op at d on_is lt of name taken r old new was same refl (idle_by op d refl)
+      unchanged w rows c layouts have ops op at d on_is lt of name taken r old new was same refl refl (idle_by op d refl)

@@ -18,14 +18,14 @@ use Rattle.row_changes.specs.Prelude.{ChangeMap, value_seen}
 use Rattle.store_image.specs.Prelude.{pages_of}
 use Rattle.store_image.proofs.Prelude.{equal_or_not}
 use Rattle.plan_drafts.specs.declared.draft.Draft.{Draft}
-use Rattle.plan_drafts.specs.Prelude.{Held, is_there, Layout, HasLayout, or_empty, IsKeyOf, size_at, AreCut, GetsShards, stay, cut, GetsLayout, ValueKey, value_key, IsValueKey, CollDraft, laid, laid_at, IsKeyOfColl, GetsDraft}
+use Rattle.plan_drafts.specs.Prelude.{Held, is_there, Layout, HasLayout, or_empty, IsKeyOf, size_at, AreCut, GetsShards, stay, cut, GetsLayout, ValueKey, value_key, IsValueKey, CollDraft, laid, laid_at, IsKeyOfColl}
 use Rattle.plan_proofs.proofs.Laid.{laid_cases, StandsAt, by_taking, as_before}
 use Rattle.plan_proofs.proofs.Reached.{IsReached}
 use Rattle.txn_planner.specs.declared.planning.Planning.{Planning}
 use Rattle.txn_planner.specs.declared.touched.Touched.{Touched}
 use Rattle.txn_planner.specs.Planning.{IsStateOf}
 use Rattle.txn_planner.specs.Touching.{IsTouched}
-use Rattle.txn_planner.specs.Laying.{is_moved, PutsBelow, AllTakeBelow, AllNamed, laid_now, cut_of, with_objects, coll_row, is_on_coll, with_rows, HasCollRow, AreNew, HaveNumbers, IsChangesOf}
+use Rattle.txn_planner.specs.Laying.{is_moved, PutsBelow, AllTakeBelow, AllNamed, laid_now, cut_of, with_objects, coll_row, is_on_coll, with_rows, HasCollRow, AreNew, HaveNumbers}
 use Rattle.page_edits.proofs.Lists.{contains_in}
 use Rattle.txn_planner.proofs.ObjectNames.{among_keys}
 use Rattle.txn_planner.proofs.SameLayouts.{laid_again, same_pages, other_pages}
@@ -111,32 +111,49 @@ module _ (w : Width) (rows : Rows) (change : Change) (coll : IsCollName change.c
       by None none = none
       by (Some l) there = there.0.stands
 
-  module _ (after : Rows) (are : (key : List ℕ) → finite.get after key ≡ value_seen rows (with_rows w rows change units held p) key) where
+  -- of all other rows none is changed
+  pub others : (key : List ℕ) → IsKeyOfColl c key ⊎ (finite.get (with_rows w rows change units held p) key ≡ None)
+  others key = elim (equal_or_not key (coll_key c)) [
+    | inl e ↦ inl (inl e)
+    | inr apart ↦ elim (objects_others w rows c coll units held (finite.keys p.objects) p.objects p.values sound key) [
+      | inl its ↦ inl (inr (its.0, its.1, inl its.2))
+      | inr same ↦ by (rows_others key apart ∙ same) (finite.get p.values key) refl
+    ]
+  ]
+    where
+      by : finite.get (with_rows w rows change units held p) key ≡ finite.get p.values key → (z : Option (Option (List ℕ)))
+          → finite.get p.values key ≡ z → IsKeyOfColl c key ⊎ (finite.get (with_rows w rows change units held p) key ≡ None)
+      by same None q = inr (same ∙ q)
+      by same (Some v) q = let its = state.of_values key (ap is_some q) in inl (inr (its.0, its.1, inr its.2))
+
+  -- rows after, as far as they are the collection's
+  module _ (after : Rows)
+      (are : (key : List ℕ) → IsKeyOfColl c key → finite.get after key ≡ value_seen rows (with_rows w rows change units held p) key) where
     abbrev seen_as : List ℕ → Option (Option (List ℕ)) → Option (List ℕ)
     seen_as key z = unwrap_or z (finite.get rows key)
 
-    coll_after : finite.get after (coll_key c) ≡ coll_row d.there
-    coll_after = are (coll_key c) ∙ elim (cases_Bool (list_any is_on_coll change.ops)) [
+    pub coll_after : finite.get after (coll_key c) ≡ coll_row d.there
+    coll_after = are (coll_key c) (inl refl) ∙ elim (cases_Bool (list_any is_on_coll change.ops)) [
       | inl on ↦ ap (λ b. seen_as (coll_key c) (finite.get (either_rows b) (coll_key c))) on
           ∙ ap (seen_as (coll_key c)) (get_same changes (coll_key c) (coll_row p.there)) ∙ ap coll_row state.there
       | inr none ↦ ap (λ b. seen_as (coll_key c) (finite.get (either_rows b) (coll_key c))) none
           ∙ ap (seen_as (coll_key c)) no_coll ∙ had_coll none
     ]
 
-    seen_by : (key : List ℕ) → (key ≡ coll_key c → ⊥) → finite.get after key ≡ seen_as key (finite.get changes key)
-    seen_by key apart = are key ∙ ap (seen_as key) (rows_others key apart)
+    seen_by : (key : List ℕ) → IsKeyOfColl c key → (key ≡ coll_key c → ⊥) → finite.get after key ≡ seen_as key (finite.get changes key)
+    seen_by key of apart = are key of ∙ ap (seen_as key) (rows_others key apart)
 
-    seen_object : (o key : List ℕ) → IsKeyOf c o key → finite.get after key ≡ seen_as key (finite.get changes key)
-    seen_object o key of = seen_by key (coll_apart c o key of)
+    seen_object : (o key : List ℕ) → IsName o → IsKeyOf c o key → finite.get after key ≡ seen_as key (finite.get changes key)
+    seen_object o key name of = seen_by key (inr (o, name, inl of)) (coll_apart c o key of)
 
     -- ---- an object
 
     module _ (o : List ℕ) (name : IsName o) where
       seen_onode : finite.get after (onode_key c o) ≡ seen_as (onode_key c o) (finite.get changes (onode_key c o))
-      seen_onode = seen_object o (onode_key c o) (inl refl)
+      seen_onode = seen_object o (onode_key c o) name (inl refl)
 
       seen_shard : (page : ℕ) → page < 2 ^ 32 → finite.get after (shard_key c o page) ≡ seen_as (shard_key c o page) (finite.get changes (shard_key c o page))
-      seen_shard page lt = seen_object o (shard_key c o page) (inr (page, lt, refl))
+      seen_shard page lt = seen_object o (shard_key c o page) name (inr (page, lt, refl))
 
       -- one that no operation has looked at
       module _ (none : finite.get p.objects o ≡ None) where
@@ -218,41 +235,18 @@ module _ (w : Width) (rows : Rows) (change : Change) (coll : IsCollName change.c
         gets_touched : GetsLayout w rows after c o (layouts o) (laid_at units held d o)
         gets_touched = record { onode = onode_now ∙ ap (λ z. option_map (to_le_bytes w64) (size_at z)) now_laid; shards = shards_now }
 
-      gets_object : GetsLayout w rows after c o (layouts o) (laid_at units held d o)
+      pub gets_object : GetsLayout w rows after c o (layouts o) (laid_at units held d o)
       gets_object = by (finite.get p.objects o) refl
         where
           by : (z : Option Touched) → finite.get p.objects o ≡ z → GetsLayout w rows after c o (layouts o) (laid_at units held d o)
           by None q = gets_untouched q
           by (Some t) q = gets_touched t q
 
-    -- ---- values, and all other rows
+    -- ---- values
 
-    gets_value : (o : List ℕ) (k : ValueKey) → IsName o → IsValueKey k → finite.get after (value_key c o k) ≡ d.value o k
-    gets_value o k name named = seen_by (value_key c o k) (value_no_coll c o k) ∙ ap (seen_as (value_key c o k)) (value_kept o k named)
-        ∙ state.values o k name named
-
-    others : (key : List ℕ) → IsKeyOfColl c key ⊎ (finite.get after key ≡ finite.get rows key)
-    others key = elim (equal_or_not key (coll_key c)) [
-      | inl e ↦ inl (inl e)
-      | inr apart ↦ elim (objects_others w rows c coll units held (finite.keys p.objects) p.objects p.values sound key) [
-        | inl its ↦ inl (inr (its.0, its.1, inl its.2))
-        | inr same ↦ by apart same (finite.get p.values key) refl
-      ]
-    ]
-      where
-        by : (key ≡ coll_key c → ⊥) → finite.get changes key ≡ finite.get p.values key → (z : Option (Option (List ℕ))) → finite.get p.values key ≡ z
-            → IsKeyOfColl c key ⊎ (finite.get after key ≡ finite.get rows key)
-        by apart same None q = inr (seen_by key apart ∙ ap (seen_as key) (same ∙ q))
-        by apart same (Some v) q = let its = state.of_values key (ap is_some q) in inl (inr (its.0, its.1, inr its.2))
-
-    pub gets_draft : GetsDraft w rows after c layouts units held d
-    gets_draft = record { coll = coll_after; objects = gets_object; values = gets_value; others = others }
-
--- the changes at the end are those of the state
-pub are_changes : (w : Width) (rows : Rows) (change : Change) → IsCollName change.coll → (p : Planning) (units : List ℕ) (held : Held)
-    → AllTakeBelow (length units) p.objects → IsChangesOf w rows change p units held (with_rows w rows change units held p)
-are_changes w rows change coll p units held below layouts d state has had new numbers after are =
-    gets_draft w rows change coll p units held below layouts d state has had new numbers after are
+    pub gets_value : (o : List ℕ) (k : ValueKey) → IsName o → IsValueKey k → finite.get after (value_key c o k) ≡ d.value o k
+    gets_value o k name named = seen_by (value_key c o k) (inr (o, name, inr (record { of = k; named = named; is = refl }))) (value_no_coll c o k)
+        ∙ ap (seen_as (value_key c o k)) (value_kept o k named) ∙ state.values o k name named
 
 -- ---- what a caller knows of a draft that operations have led to
 

@@ -1,5 +1,5 @@
 -- The plan of a transaction of which all operations are planned.
-use Rattle.std.proofs.Common.{◌≡◌, ◌↔◌, Bool, true, false, not, is_some, ℕ, zero, suc, ◌<◌, ◌^◌, List, [], ◌∷◌, length, take, Contains, Option, Some, None, refl, sym, ap, subst, ◌∙◌, arith, inl, inr}
+use Rattle.std.proofs.Common.{◌≡◌, ◌↔◌, ◌⊎◌, Bool, true, false, not, is_some, ℕ, zero, suc, ◌<◌, ◌^◌, List, [], ◌∷◌, length, take, Contains, Option, Some, None, refl, sym, ap, subst, ◌∙◌, arith, inl, inr}
 use Rattle.std.specs.Option.{option_map}
 use Rattle.std.specs.List.{AllByRecursion, list_any}
 use Rattle.std.specs.Ordering.{nat_cmp}
@@ -21,13 +21,16 @@ use Rattle.unit_allocator.specs.Prelude.{Space, free_units}
 use Rattle.unit_allocator.proofs.Lists.{Contains-head, Contains-tail, Contains-cases}
 use Rattle.plan_rows.specs.declared.plan.Plan.{Plan}
 use Rattle.plan_rows.specs.declared.plan.ReadUnit.{ReadUnit}
+use Rattle.plan_rows.specs.declared.plan.SlotNo.{SlotNo}
 use Rattle.plan_drafts.specs.declared.draft.Draft as object
-use Rattle.plan_drafts.specs.Prelude.{Held, Layout, HasLayout, there_after, CollDraft, with_op, with_ops, places_of, held_by, none_held, AreTaken, draft_of, AreReadAt, Stands, filled, fresh_units, AreFreeOver, MakesDraft, Plans}
+use Rattle.plan_drafts.specs.Prelude.{Held, Layout, HasLayout, there_after, CollDraft, with_op, with_ops, places_of, held_by, none_held, AreTaken, draft_of, AreReadAt, IsFreed, Stands, filled, fresh_units, AreFreeOver, MakesDraft, Plans}
 use Rattle.plan_proofs.proofs.DraftOwners.{layout_pages}
 use Rattle.plan_proofs.proofs.Reached.{IsReached}
 use Rattle.plan_proofs.proofs.Takings.{all_listed}
 use Rattle.object_rows.specs.Stores.{AreRowsOfWidth}
 use Rattle.row_changes.specs.Prelude.{ChangeMap}
+use Rattle.shared_blobs.specs.Lowering.{AreLowered}
+use Rattle.shared_blobs.specs.declared.lowering.Lowered.{Lowered}
 use Rattle.page_edits.specs.Writes.{after_writes, held_in, CanBeMade}
 use Rattle.txn_planner.specs.declared.drafts.TxnDraft.{TxnDraft}
 use Rattle.txn_planner.specs.declared.planning.Planning.{Planning}
@@ -57,6 +60,15 @@ none_put None x page taking is put = cc
 none_put (Some l) x page taking is put =
     let same : draft_of l ≡ x = cc in
     let t = sym (finite.get-empty nat_cmp page) ∙ ap (λ (z : object.Draft). finite.get z.puts page) same ∙ put in cc
+
+-- the units that are released, by those of slots that came free
+pub released_by : (w : Width) (rows : Rows) (unshared : List SlotNo) (left released : List ℕ) (lowered : Lowered) → AreLowered w rows unshared lowered
+    → (unit : ℕ) → Contains released unit ↔ (Contains left unit ⊎ Contains lowered.freed.items unit)
+    → Contains released unit ↔ (Contains left unit ⊎ IsFreed w rows unshared unit)
+released_by w rows unshared left released lowered are unit both = (
+  λ k. elim (both.0 k) [ inl l ↦ inl l | inr f ↦ inr ((are.freed unit).0 f) ],
+  λ its. both.1 (elim its [ inl l ↦ inl l | inr f ↦ inr ((are.freed unit).1 f) ]),
+)
 
 -- ---- the row of the collection
 
@@ -173,7 +185,7 @@ module _ (w : Width) (change : Change) (rows : Rows) (space : Space) (draft : Tx
   -- ---- the plan
 
   -- The parts of a plan: its fresh units are those of the takings on which pages stand, with what they are to hold, its released ones those that
-  -- pages have left, and its operations those of the changes of rows.
+  -- pages have left and those of slots that no page names any more, and its operations those of the changes of rows.
   pub record IsMade (read : List ReadUnit) (plan : Plan) : Type 0 where
     pub read_is : plan.read ≡ read
     pub contents : List (List ℕ)
@@ -183,7 +195,7 @@ module _ (w : Width) (change : Change) (rows : Rows) (space : Space) (draft : Tx
     pub are_put : (taking : ℕ) → Contains takings taking ↔ IsPutIn p.objects taking
     pub fresh : plan.fresh ≡ filled draft.units.items (held_in contents) takings
     pub csums : AllByRecursion (λ f. crc32c f.bytes < 2 ^ 32) plan.fresh
-    pub are_left : (unit : ℕ) → Contains plan.released unit ↔ Contains p.left.items unit
+    pub are_left : (unit : ℕ) → Contains plan.released unit ↔ (Contains p.left.items unit ⊎ IsFreed w rows p.unshared.items unit)
     pub left_ascend : Ascends plan.released
     pub changes : ChangeMap
     pub are_changes : IsChangesOf w rows change p draft.units.items (held_in contents) changes
@@ -224,7 +236,16 @@ module _ (w : Width) (change : Change) (rows : Rows) (space : Space) (draft : Tx
         ascend = m.ascend;
         are_standing = λ t. (λ k. (stands_by t).0 ((m.are_put t).0 k), λ st. (m.are_put t).1 ((stands_by t).1 st));
         fresh = m.fresh;
-        are_left = λ unit. (λ k. (state.left unit).0 ((m.are_left unit).0 k), λ l. (m.are_left unit).1 ((state.left unit).1 l));
+        are_left = λ unit. (
+          λ k. elim ((m.are_left unit).0 k) [
+            | inl left ↦ inl ((state.left unit).0 left)
+            | inr freed ↦ inr (subst (λ ss. IsFreed w rows ss unit) state.unshared freed)
+          ],
+          λ its. (m.are_left unit).1 (elim its [
+            | inl left ↦ inl ((state.left unit).1 left)
+            | inr freed ↦ inr (subst (λ ss. IsFreed w rows ss unit) (sym state.unshared) freed)
+          ]),
+        );
         left_ascend = m.left_ascend;
         turns = m.ops.turns;
       }

@@ -52,6 +52,7 @@ module _ (w : Width) (rows : Rows) (good : AreRowsOfWidth w rows) (change : Chan
     drafts = λ o name. refl;
     values = λ o k name named. refl;
     none_taken = refl;
+    none_left = refl;
     stand = λ o page place name is. subst (λ u. StandsOn u rows place (page_unit w rows place)) (sym same) (place_stands o page place name is);
   }
 

@@ -21,3 +21,4 @@ pub mod Besides
 pub mod Cuts
 pub mod ObjectRows
 pub mod ChangedRows
+pub mod BlobChanges

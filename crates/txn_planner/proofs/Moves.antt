@@ -1,5 +1,5 @@
 -- What one operation makes of the objects that were looked at is what it makes of the draft.
-use Rattle.std.proofs.Common.{◌≡◌, ◌≢◌, ◌↔◌, inl, inr, ℕ, ◌+◌, Bool, true, false, List, ◌++◌, Contains, Option, Some, None, refl, sym, ap, subst, ◌∙◌, arith}
+use Rattle.std.proofs.Common.{◌≡◌, ◌≢◌, ◌↔◌, inl, inr, ℕ, ◌+◌, Bool, true, false, List, [], ◌++◌, Contains, Option, Some, None, refl, sym, ap, subst, ◌∙◌, arith}
 use Rattle.std.specs.Prelude.{◌||◌}
 use Rattle.std.specs.List.{flat_map}
 use Rattle.std.specs.Option.{option_map}
@@ -14,7 +14,7 @@ use Rattle.row_format.specs.Prelude.{Place}
 use Rattle.store_image.proofs.Prelude.{equal_or_not}
 use Rattle.row_facts.proofs.Maps.{get_same, get_other}
 use Rattle.plan_drafts.specs.declared.draft.Draft.{Draft}
-use Rattle.plan_drafts.specs.Prelude.{IsOnObject, units_released, Layout, or_empty, or_new, object_of, CollDraft, object_before, draft_after, units_on, with_op, draft_of, Leaves, ValueKey, value_key, value_after, there_after, at_name, values_on}
+use Rattle.plan_drafts.specs.Prelude.{IsOnObject, units_released, slots_released, Layout, or_empty, or_new, object_of, CollDraft, pages_left, object_before, draft_after, units_on, slots_on, with_op, draft_of, Leaves, ValueKey, value_key, value_after, there_after, at_name, values_on}
 use Rattle.plan_proofs.proofs.Effects.{get_apart}
 use Rattle.plan_proofs.proofs.Names.{at_here, at_other}
 use Rattle.row_changes.specs.Prelude.{value_seen}
@@ -24,25 +24,28 @@ use Rattle.txn_planner.specs.declared.touched.Touched.{Touched}
 use Rattle.txn_planner.specs.Planning.{IsStateOf}
 use Rattle.txn_planner.specs.Steps.{has_any}
 use Rattle.txn_planner.specs.Touching.{IsTouched}
+use Rattle.txn_planner.proofs.Added.{append_none}
 use Rattle.txn_planner.proofs.NextState.{IsCut, were, cut_touched, left_then}
 
--- Each object that was looked at is known as the draft has it, all others are as they were, and the units are known that pages have left.
+-- Each object that was looked at is known as the draft has it, all others are as they were, and the units and the slots are known that pages have left.
 pub record AreStanding (rows : Rows) (c : List ℕ) (layouts : List ℕ → Option Layout) (d : CollDraft) (p : Planning) : Type 0 where
   pub touched : (o : List ℕ) (t : Touched) → finite.get p.objects o ≡ Some t → IsTouched rows c o (layouts o) (d.layout o) t
   pub untouched : (o : List ℕ) → IsName o → finite.get p.objects o ≡ None → d.layout o ≡ option_map draft_of (layouts o)
   pub left : (unit : ℕ) → Contains p.left.items unit ↔ Leaves layouts d unit
+  pub unshared : p.unshared.items ≡ d.unshared
 
 pub standing_of : (rows : Rows) (c : List ℕ) (layouts : List ℕ → Option Layout) (d : CollDraft) (p : Planning) → IsStateOf rows c layouts d p
     → AreStanding rows c layouts d p
-standing_of rows c layouts d p is = record { touched = is.touched; untouched = is.untouched; left = is.left }
+standing_of rows c layouts d p is = record { touched = is.touched; untouched = is.untouched; left = is.left; unshared = is.unshared }
 
--- drafts that have the same layouts
+-- drafts that have the same layouts, and the same slots that pages left
 pub same_layouts : (rows : Rows) (c : List ℕ) (layouts : List ℕ → Option Layout) (d d' : CollDraft) (p : Planning) → d'.layout ≡ d.layout
-    → AreStanding rows c layouts d p → AreStanding rows c layouts d' p
-same_layouts rows c layouts d d' p same is = record {
+    → d'.unshared ≡ d.unshared → AreStanding rows c layouts d p → AreStanding rows c layouts d' p
+same_layouts rows c layouts d d' p same slots is = record {
   touched = λ o t there. subst (λ x. IsTouched rows c o (layouts o) x t) (ap (λ f. f o) (sym same)) (is.touched o t there);
   untouched = λ o name none. ap (λ f. f o) same ∙ is.untouched o name none;
   left = λ unit. (λ k. forth ((is.left unit).0 k), λ l. (is.left unit).1 (back l));
+  unshared = is.unshared ∙ sym slots;
 }
   where
     forth : {unit : ℕ} → Leaves layouts d unit → Leaves layouts d' unit
@@ -80,11 +83,13 @@ pub record Moves (rows : Rows) (c : List ℕ) (layouts : List ℕ → Option Lay
   pub is : IsTouched rows c (object_of op) (layouts (object_of op)) (d.layout (object_of op)) before
   pub test : ℕ → Bool
   pub cut : IsCut (d.layout (object_of op)) (draft_after op d) test
+  pub leave : pages_left op (d.layout (object_of op)) ≡ were (d.layout (object_of op)) test
   pub objects : new.objects ≡ finite.insert (finite.remove old.objects (object_of op)) (object_of op) (record before {
     now = draft_after op d;
     left = before.left || has_any (were (d.layout (object_of op)) test);
   })
   pub left : new.left.items ≡ old.left.items ++ flat_map (λ p. units_released p.1) (were (d.layout (object_of op)) test)
+  pub unshared : new.unshared.items ≡ old.unshared.items ++ flat_map (λ p. slots_released p.1) (were (d.layout (object_of op)) test)
 
 module _ (w : Width) (rows : Rows) (c : List ℕ) (layouts : List ℕ → Option Layout) (op : Op) (d : CollDraft) (old new : Planning)
     (stood : (page : ℕ) (place : Place) → finite.get (or_new (d.layout (object_of op))).kept page ≡ Some place
@@ -132,23 +137,35 @@ module _ (w : Width) (rows : Rows) (c : List ℕ) (layouts : List ℕ → Option
           λ k. all.0 (subst (λ us. Contains us unit) m.left k),
           λ l. subst (λ us. Contains us unit) (sym m.left) (all.1 l),
         );
+    unshared = m.unshared ∙ ap (λ es. old.unshared.items ++ flat_map (λ p. slots_released p.1) es) (sym m.leave)
+        ∙ ap (λ ss. ss ++ slots_on op d) was.unshared;
   }
 
 -- ---- an object that stays as it is
 
--- no object is put back, and the operation leaves the draft of its own as it is
+-- no object is put back, the operation leaves the draft of its own as it is, and no page leaves its place
 pub record Stays (op : Op) (d : CollDraft) (old new : Planning) : Type 0 where
   pub made : draft_after op d ≡ d.layout (object_of op)
+  pub leave : pages_left op (d.layout (object_of op)) ≡ []
   pub objects : new.objects ≡ old.objects
   pub left : new.left.items ≡ old.left.items
+  pub unshared : new.unshared.items ≡ old.unshared.items
 
 pub stayed : (rows : Rows) (c : List ℕ) (layouts : List ℕ → Option Layout) (op : Op) (d : CollDraft) (old new : Planning) → Stays op d old new
     → AreStanding rows c layouts d old → AreStanding rows c layouts (with_op op d) new
-stayed rows c layouts op d old new s was = same_layouts rows c layouts d (with_op op d) new (at_same (object_of op) _ d.layout s.made) (record {
-  touched = λ o t there. was.touched o t (ap (λ os. finite.get os o) (sym s.objects) ∙ there);
-  untouched = λ o name none. was.untouched o name (ap (λ os. finite.get os o) (sym s.objects) ∙ none);
-  left = λ unit. (λ k. (was.left unit).0 (subst (λ us. Contains us unit) s.left k), λ l. subst (λ us. Contains us unit) (sym s.left) ((was.left unit).1 l));
-})
+stayed rows c layouts op d old new s was =
+    same_layouts rows c layouts d (with_op op d) new (at_same (object_of op) _ d.layout s.made) none (record {
+      touched = λ o t there. was.touched o t (ap (λ os. finite.get os o) (sym s.objects) ∙ there);
+      untouched = λ o name none. was.untouched o name (ap (λ os. finite.get os o) (sym s.objects) ∙ none);
+      left = λ unit. (
+        λ k. (was.left unit).0 (subst (λ us. Contains us unit) s.left k),
+        λ l. subst (λ us. Contains us unit) (sym s.left) ((was.left unit).1 l),
+      );
+      unshared = s.unshared ∙ was.unshared;
+    })
+  where
+    none : d.unshared ++ slots_on op d ≡ d.unshared
+    none = ap (λ es. d.unshared ++ flat_map (λ p. slots_released p.1) es) s.leave ∙ sym (append_none d.unshared)
 
 -- ---- values
 
@@ -177,6 +194,7 @@ object_state rows c layouts op d old new on named was stand there values taken =
   ];
   taken = taken ∙ ap (λ n. n + units_on op d) was.taken;
   left = stand.left;
+  unshared = stand.unshared;
 }
   where
     o : List ℕ
@@ -186,10 +204,10 @@ object_state rows c layouts op d old new on named was stand there values taken =
 
 -- an operation that changes nothing but whether the collection is there
 coll_by : (rows : Rows) (c : List ℕ) (layouts : List ℕ → Option Layout) (op : Op) (d : CollDraft) (old : Planning) (there : Bool)
-    → draft_after op d ≡ object_before op d → units_on op d ≡ 0
+    → draft_after op d ≡ object_before op d → pages_left op (object_before op d) ≡ [] → units_on op d ≡ 0
     → ((k : ValueKey) (v : Option (List ℕ)) → value_after op k v ≡ v) → there ≡ there_after op d.there → IsStateOf rows c layouts d old
     → IsStateOf rows c layouts (with_op op d) (record old { there = there })
-coll_by rows c layouts op d old there made none kept is was = record {
+coll_by rows c layouts op d old there made leave none kept is was = record {
   there = is;
   touched = stand.touched;
   untouched = stand.untouched;
@@ -198,6 +216,7 @@ coll_by rows c layouts op d old there made none kept is was = record {
       ∙ sym (ap (λ f. f u k) (at_same o (values_on op d) d.value (fun_ext (λ k. kept k (d.value o k)))));
   taken = was.taken ∙ omega (arith, none);
   left = stand.left;
+  unshared = stand.unshared;
 }
   where
     o : List ℕ
@@ -207,13 +226,13 @@ coll_by rows c layouts op d old there made none kept is was = record {
     new = record old { there = there }
 
     stand : AreStanding rows c layouts (with_op op d) new
-    stand = stayed rows c layouts op d old new (record { made = made; objects = refl; left = refl })
+    stand = stayed rows c layouts op d old new (record { made = made; leave = leave; objects = refl; left = refl; unshared = refl })
         (standing_of rows c layouts d old was)
 
 pub coll_made : (rows : Rows) (c : List ℕ) (layouts : List ℕ → Option Layout) (d : CollDraft) (old : Planning) → IsStateOf rows c layouts d old
     → IsStateOf rows c layouts (with_op MkColl d) (record old { there = true })
-coll_made rows c layouts d old was = coll_by rows c layouts MkColl d old true refl refl (λ k v. refl) refl was
+coll_made rows c layouts d old was = coll_by rows c layouts MkColl d old true refl refl refl (λ k v. refl) refl was
 
 pub coll_gone : (rows : Rows) (c : List ℕ) (layouts : List ℕ → Option Layout) (d : CollDraft) (old : Planning) → IsStateOf rows c layouts d old
     → IsStateOf rows c layouts (with_op RmColl d) (record old { there = false })
-coll_gone rows c layouts d old was = coll_by rows c layouts RmColl d old false refl refl (λ k v. refl) refl was
+coll_gone rows c layouts d old was = coll_by rows c layouts RmColl d old false refl refl refl (λ k v. refl) refl was

@@ -178,7 +178,7 @@ module _ (w : Width) (change : Change) (rows : Rows) (good : AreRowsOfWidth w ro
       let then : Planning = record makes.between { values = new.values } in
       let stand : AreStanding rows change.coll layouts (with_op the_op d) new =
       subst (AreStanding rows change.coll layouts (with_op the_op d)) (sym makes.same)
-      (record { touched = k.stand.touched; untouched = k.stand.untouched; left = k.stand.left }) in
+      (record { touched = k.stand.touched; untouched = k.stand.untouched; left = k.stand.left; unshared = k.stand.unshared }) in
       let adds : Adds change.ops the_op d old new = subst (Adds change.ops the_op d old) (sym makes.same)
       (record {
         taken = k.adds.taken;

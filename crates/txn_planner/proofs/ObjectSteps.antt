@@ -10,7 +10,7 @@ use Rattle.unit_fields.specs.Prelude.{IsName}
 use Rattle.unit_fields.specs.declared.width.Width.{Width}
 use Rattle.blob_map.specs.Prelude.{PageMap}
 use Rattle.plan_drafts.specs.declared.draft.Draft.{Draft}
-use Rattle.plan_drafts.specs.Prelude.{edit_of, drafted, units_released, page_unit, Layout, HasLayout, object_of, or_new, edit_on, CollDraft}
+use Rattle.plan_drafts.specs.Prelude.{edit_of, drafted, units_released, slots_released, page_unit, Layout, HasLayout, object_of, or_new, edit_on, CollDraft}
 use Rattle.txn_planner.specs.declared.planning.Planning.{Planning}
 use Rattle.txn_planner.specs.declared.touched.Touched.{Touched}
 use Rattle.txn_planner.specs.Planning.{IsStateOf}
@@ -52,7 +52,13 @@ module _ (w : Width) (rows : Rows) (c o : List ℕ) (name : IsName o) (old : Pla
             })) on k.objects;
             values = k.values;
           };
-          adds = record { writes = k.adds.writes; places = k.adds.places; left = k.adds.left; taken = k.adds.taken };
+          adds = record {
+            writes = k.adds.writes;
+            places = k.adds.places;
+            left = k.adds.left;
+            unshared = k.adds.unshared;
+            taken = k.adds.taken;
+          };
         }
 
     -- it is missing, and stays so
@@ -72,6 +78,7 @@ module _ (w : Width) (rows : Rows) (c o : List ℕ) (name : IsName o) (old : Pla
           writes = ap (λ (p : Planning). p.writes.items) put;
           places = ap (λ (p : Planning). p.places.items) put;
           left = ap (λ (p : Planning). p.left.items) put;
+          unshared = ap (λ (p : Planning). p.unshared.items) put;
           taken = ap (λ (p : Planning). p.taken) put;
         };
       },
@@ -89,8 +96,9 @@ module _ (w : Width) (rows : Rows) (c o : List ℕ) (name : IsName o) (old : Pla
       → then ≡ record t { now = None; left = t.left || has_any (entries kept) } → put ≡ record between { objects = finite.insert between.objects o then }
       → new.there ≡ put.there → new.objects ≡ put.objects → new.values ≡ put.values → new.writes.items ≡ put.writes.items
       → new.places.items ≡ put.places.items → new.taken ≡ put.taken
-      → new.left.items ≡ put.left.items ++ flat_map (λ p. units_released p.1) (entries kept) → DropsObject w rows c o old new
-  dropped_back between put new then kept same kept_is then_is is there objects values writes places taken left = record {
+      → new.left.items ≡ put.left.items ++ flat_map (λ p. units_released p.1) (entries kept)
+      → new.unshared.items ≡ put.unshared.items ++ flat_map (λ p. slots_released p.1) (entries kept) → DropsObject w rows c o old new
+  dropped_back between put new then kept same kept_is then_is is there objects values writes places taken left unshared = record {
     before = t;
     stands = stands_so;
     puts = record {
@@ -102,6 +110,8 @@ module _ (w : Width) (rows : Rows) (c o : List ℕ) (name : IsName o) (old : Pla
     places = places ∙ ap (λ (p : Planning). p.places.items) put_is;
     left = left ∙ ap (λ us. us ++ flat_map (λ p. units_released p.1) (entries kept)) (ap (λ (p : Planning). p.left.items) put_is)
         ∙ ap (λ m. old.left.items ++ flat_map (λ p. units_released p.1) (entries m)) kept_is;
+    unshared = unshared ∙ ap (λ ss. ss ++ flat_map (λ p. slots_released p.1) (entries kept)) (ap (λ (p : Planning). p.unshared.items) put_is)
+        ∙ ap (λ m. old.unshared.items ++ flat_map (λ p. slots_released p.1) (entries m)) kept_is;
     taken = taken ∙ ap (λ (p : Planning). p.taken) put_is;
   }
     where

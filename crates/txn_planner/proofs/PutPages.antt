@@ -203,3 +203,16 @@ listed_as P us none s is adds are n = (
   λ k. (all_that_it_got P none s is adds n).0 ((listed us s n are).0 k),
   λ p. (listed us s n are).1 ((all_that_it_got P none s is adds n).1 p),
 )
+
+-- a set that got some numbers and then others got both
+pub got_both : (P Q : ℕ → Type 0) (old mid new : Units) → GetsNumbers P old mid → GetsNumbers Q mid new → GetsNumbers (λ n. P n ⊎ Q n) old new
+got_both P Q old mid new first second n = (
+  λ h. elim ((second n).0 h) [
+    | inr q ↦ inr (inr q)
+    | inl was ↦ elim ((first n).0 was) [ inl o ↦ inl o | inr p ↦ inr (inl p) ]
+  ],
+  λ either. (second n).1 (elim either [
+    | inl o ↦ inl ((first n).1 (inl o))
+    | inr both ↦ elim both [ inl p ↦ inl ((first n).1 (inr p)) | inr q ↦ inr q ]
+  ]),
+)

@@ -17,6 +17,8 @@ use Rattle.blob_map.specs.Prelude.{PageMap, extents_of}
 use Rattle.extent_shards.specs.Prelude.{shard_bytes, shards_of, shard_limit, first_of}
 use Rattle.row_changes.specs.Prelude.{ChangeMap, value_seen}
 use Rattle.plan_drafts.specs.declared.draft.Draft.{Draft}
+use Rattle.plan_rows.specs.Prelude.{blob_value}
+use Rattle.shared_blobs.specs.Blob.{Blob}
 use Rattle.plan_drafts.specs.Prelude.{Held, there_after, EndsBelow, Layout, HasLayout, or_empty, size_at, CollDraft, laid, GetsDraft}
 use Rattle.txn_planner.specs.declared.planning.Planning.{Planning}
 use Rattle.txn_planner.specs.declared.touched.Touched.{Touched}
@@ -159,6 +161,13 @@ with_rows w rows change units held p =
     if list_any is_on_coll change.ops then finite.insert (with_objects w rows change.coll units held (finite.keys p.objects) p.objects p.values)
     (coll_key change.coll) (coll_row p.there)
     else with_objects w rows change.coll units held (finite.keys p.objects) p.objects p.values
+
+-- ---- blobs
+
+-- blobs, each under the key of its row, get rows as they are; one of which no page names a slot loses it
+abbrev pub with_blobs : Width → List (List ℕ × Blob) → ChangeMap → ChangeMap
+with_blobs w [] changes = changes
+with_blobs w (e ∷ es) changes = with_blobs w es (finite.insert changes e.0 (blob_value w e.1.first e.1.slots))
 
 -- ---- what they come to
 

@@ -1,5 +1,5 @@
 -- A transaction that is being planned, after some of its operations.
-use Rattle.std.specs.Prelude.{◌≡◌, ◌↔◌, ℕ, ◌*◌, ◌≤◌, Bool, true, false, is_some, List, length, take, Option, Some, None, Contains}
+use Rattle.std.specs.Prelude.{◌≡◌, ◌↔◌, ℕ, ◌*◌, ◌≤◌, Bool, true, false, is_some, List, [], length, take, Option, Some, None, Contains}
 use Rattle.std.specs.List.{AllByRecursion, list_any}
 use Rattle.std.specs.Option.{option_map}
 use Rattle.std.specs.FinMap as finite
@@ -25,11 +25,12 @@ first_draft w rows c layouts = record {
   layout = λ o. option_map draft_of (layouts o);
   value = λ o k. finite.get rows (value_key c o k);
   taken = 0;
+  unshared = [];
   on = page_unit w rows;
 }
 
 -- The state has the collection as this draft has it: whether it is there, each object that was looked at as it stands now, all others as they stood,
--- and the values through the changes of rows.
+-- and the values through the changes of rows; the units and the slots are known that pages have left.
 pub record IsStateOf (rows : Rows) (c : List ℕ) (layouts : List ℕ → Option Layout) (d : CollDraft) (p : Planning) : Type 0 where
   pub there : p.there ≡ d.there
   pub touched : (o : List ℕ) (t : Touched) → finite.get p.objects o ≡ Some t → IsTouched rows c o (layouts o) (d.layout o) t
@@ -38,6 +39,7 @@ pub record IsStateOf (rows : Rows) (c : List ℕ) (layouts : List ℕ → Option
   pub values : (o : List ℕ) (k : ValueKey) → IsName o → IsValueKey k → value_seen rows p.values (value_key c o k) ≡ d.value o k
   pub taken : p.taken ≡ d.taken
   pub left : (unit : ℕ) → Contains p.left.items unit ↔ Leaves layouts d unit
+  pub unshared : p.unshared.items ≡ d.unshared
 
 -- whether one of these objects is there
 abbrev pub any_there : List (List ℕ × Touched) → Bool

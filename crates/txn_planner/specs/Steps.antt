@@ -14,7 +14,7 @@ use Rattle.row_format.specs.Prelude.{Place}
 use Rattle.store_image.specs.Prelude.{PageUnit}
 use Rattle.plan_drafts.specs.declared.draft.Draft.{Draft}
 use Rattle.plan_rows.specs.declared.plan.ReadUnit.{ReadUnit}
-use Rattle.plan_drafts.specs.Prelude.{edit_of, is_touched, pages_taking, places_read, drafted, units_released, page_unit, Held, writes_of, Layout, HasLayout, object_of, or_new, edit_on, is_beyond, needs_object, CollDraft, HasSome}
+use Rattle.plan_drafts.specs.Prelude.{edit_of, is_touched, pages_taking, places_read, drafted, units_released, slots_released, page_unit, Held, writes_of, Layout, HasLayout, object_of, or_new, edit_on, is_beyond, needs_object, CollDraft, HasSome}
 use Rattle.value_changes.specs.Changed.{ChangesValues}
 use Rattle.page_edits.specs.Takings.{IsNumbered, PutsWholePages}
 use Rattle.page_edits.specs.Writes.{op_at, made_by, IsWriteBy, CanBeMade}
@@ -82,6 +82,7 @@ pub record TakesNothing (old new : Planning) : Type 0 where
   pub writes : new.writes.items ≡ old.writes.items
   pub places : new.places.items ≡ old.places.items
   pub left : new.left.items ≡ old.left.items
+  pub unshared : new.unshared.items ≡ old.unshared.items
   pub taken : new.taken ≡ old.taken
 
 -- what an edit tells, where places are on these units: its writes, the units that it reads, its takings, and the pages that it touches of those
@@ -100,6 +101,7 @@ pub record AddsEdit (e : Edited) (old new : Planning) : Type 0 where
   pub writes : new.writes.items ≡ old.writes.items ++ e.writes
   pub places : new.places.items ≡ old.places.items ++ e.places
   pub left : new.left.items ≡ old.left.items ++ flat_map (λ p. units_released p.1) e.left
+  pub unshared : new.unshared.items ≡ old.unshared.items ++ flat_map (λ p. slots_released p.1) e.left
   pub taken : new.taken ≡ e.taken
 
 -- whether a list has anything
@@ -148,6 +150,7 @@ pub record DropsObject (w : Width) (rows : Rows) (c o : List ℕ) (old new : Pla
   pub writes : new.writes.items ≡ old.writes.items
   pub places : new.places.items ≡ old.places.items
   pub left : new.left.items ≡ old.left.items ++ flat_map (λ p. units_released p.1) (finite.entries (or_new before.now).kept)
+  pub unshared : new.unshared.items ≡ old.unshared.items ++ flat_map (λ p. slots_released p.1) (finite.entries (or_new before.now).kept)
   pub taken : new.taken ≡ old.taken
 
 -- a truncate is the one edit that leaves a missing object missing

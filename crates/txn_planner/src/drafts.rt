@@ -19,6 +19,7 @@ use object_model::{Refusal, Transaction};
 use object_rows::coll_name_is_one;
 use page_edits::contents;
 use plan_rows::{PageUnit, Plan, ReadUnit};
+use shared_blobs::lower;
 use std::alloc::{AllocError, Global};
 use unit_allocator::Allocator;
 use unit_fields::{UnitNo, Width};
@@ -42,8 +43,9 @@ impl TxnDraft {
 
     /// The plan, where these old bytes were read, each unit whole, in the order of their places.
     ///
-    /// Each page that the transaction put takes the free unit of its taking, and the units are released that pages have left. The bits of all
-    /// these in the freelist are turned by the last operations. The bytes of whole pages aren't copied.
+    /// Each page that the transaction put takes the free unit of its taking, and the units are released that pages have left: those of objects'
+    /// own, and those of slots that no page names any more. The bits of all these in the freelist are turned by the last operations. The
+    /// bytes of whole pages aren't copied.
     pub fn finish(
         self,
         alloc: Global,
@@ -69,8 +71,18 @@ impl TxnDraft {
         )?;
         let takings = standing(alloc, &planning.objects)?;
         let fresh = fresh_units(alloc, takings.as_slice(), &units, held.as_slice())?;
-        let released = released_units(alloc, &planning.left)?;
-        let changes = changed_rows(alloc, width, rows, txn, planning, &units, held.as_slice())?;
+        let lowered = lower(alloc, width, rows, &planning.unshared)?;
+        let released = released_units(alloc, &planning.left, &lowered.freed)?;
+        let changes = changed_rows(
+            alloc,
+            width,
+            rows,
+            txn,
+            planning,
+            &lowered,
+            &units,
+            held.as_slice(),
+        )?;
         let ops = row_ops(alloc, rows, changes, fresh.as_slice(), released.as_slice())?;
         Ok(Plan {
             ops,

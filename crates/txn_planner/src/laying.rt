@@ -1,13 +1,15 @@
 //! The rows of the objects that a transaction has changed, once its units are taken.
 //!
 //! An onode is written where the object is longer or shorter than it was. Where one of its pages has come, gone or moved, its map is cut
-//! into shards anew, and of these the ones are written whose bytes aren't those of the row that is there.
+//! into shards anew, and of these the ones are written whose bytes aren't those of the row that is there. Each blob of which pages have left
+//! slots is written once, or its row goes.
 ghost use Rattle.std.specs.Prelude.{◌≡◌, ◌≤◌, ℕ, Option, length, IfOk, OnOk};
 ghost use Rattle.std.specs.Option.{option_map};
 ghost use Rattle.std.specs.FinMap as finite;
 ghost use Rattle.row_format.specs.Prelude.{coll_key};
 ghost use Rattle.plan_drafts.specs.Prelude.{or_empty, laid};
 ghost use Rattle.page_edits.specs.Writes.{held_in};
+ghost use Rattle.shared_blobs.specs.Lowering.{AreLowered};
 ghost use Rattle.txn_planner.specs.Laying.{
   PutsBelow,
   AllTakeBelow,
@@ -18,6 +20,7 @@ ghost use Rattle.txn_planner.specs.Laying.{
   with_touched,
   with_objects,
   coll_row,
+  with_blobs,
   IsChangesOf,
 };
 
@@ -35,6 +38,7 @@ use onode_codec::{Onode, coll_key, onode_key};
 use page_edits::lay;
 use plan_drafts::Draft;
 use row_changes::RowChanges;
+use shared_blobs::{Lowered, SharedBlob};
 use std::alloc::{AllocError, Global};
 use unit_fields::{CollName, Name, UnitNo, Width};
 
@@ -182,18 +186,41 @@ fn put_collection(
     changes.set(coll_key(alloc, coll)?, row)
 }
 
+// ---- shared blobs
+
+// Each of these blobs gets its row as it is then, or loses it where no page names one of its slots.
+fn put_blobs(
+    alloc: Global,
+    width: Width,
+    blobs: &ByteMap<SharedBlob>,
+    changes: &mut RowChanges,
+) -> Result<(), AllocError>
+    ensures { OnOk result (changes.new ≡ with_blobs width (finite.entries blobs.now) changes.old) }
+{
+    for entry in blobs.entries() {
+        let key = Bytes::from_slice(alloc, entry.0.as_slice())?;
+        let value = entry.1.encode(alloc, width)?;
+        changes.set(key, value)?;
+    }
+    Ok(())
+}
+
+// ---- all of them
+
 /// The changes of these rows that a planned transaction comes to, where it has taken these units and they are to hold these bytes: those of
-/// values, the onode of each object that is longer or shorter than it was, the shards of each of which a page has moved, and the row of the
-/// collection where an operation was on that.
+/// values, the onode of each object that is longer or shorter than it was, the shards of each of which a page has moved, the row of the
+/// collection where an operation was on that, and those of the blobs whose slots pages have left.
 pub fn changed_rows(
     alloc: Global,
     width: Width,
     rows: &RowTable,
     txn: &Transaction,
     planning: Planning,
+    lowered: &Lowered,
     units: &[UnitNo],
     contents: &[SharedBytes],
 ) -> Result<RowChanges, AllocError>
+    requires lowered { AreLowered width rows.now.rows planning.unshared.items lowered.now }
     requires named { AllNamed planning.objects }
     requires units { AllTakeBelow (length units.now) planning.objects }
     requires contents { AllTakeBelow (length contents.now) planning.objects }
@@ -220,5 +247,6 @@ pub fn changed_rows(
     if is_any_on_coll(txn.ops()) {
         put_collection(alloc, coll, there, &mut changes)?;
     }
+    put_blobs(alloc, width, &lowered.blobs, &mut changes)?;
     Ok(changes)
 }

@@ -15,7 +15,7 @@ use byte_maps::{ByteMap, Bytes};
 use meta_rows::RowTable;
 use object_rows::{has_collection, has_onode, next_name};
 use page_edits::PageWrite;
-use plan_rows::PageUnit;
+use plan_rows::{PageUnit, SlotNo};
 use row_changes::RowChanges;
 use std::alloc::{AllocError, Global};
 use unit_fields::{CollName, Name, UnitNo, Width};
@@ -35,6 +35,8 @@ pub struct Planning {
     pub places: Vec<PageUnit>,
     /// The units of objects' own that pages have left on which they stood.
     pub left: Vec<UnitNo>,
+    /// The slots of shared blobs that pages have left, one for each page.
+    pub unshared: Vec<SlotNo>,
     /// How many units were taken.
     pub taken: u32,
 }
@@ -56,6 +58,7 @@ impl Planning {
             writes: Vec::new(alloc),
             places: Vec::new(alloc),
             left: Vec::new(alloc),
+            unshared: Vec::new(alloc),
             taken: 0,
         })
     }

@@ -1,7 +1,7 @@
 //! The units on which pages stand once the operations of a transaction are planned, with what they are to hold, and those that it gives back.
 //!
 //! Where a page went again that the transaction had put, the unit that was taken for it isn't written and stays free.
-ghost use Rattle.std.specs.Prelude.{◌≡◌, ◌↔◌, ◌<◌, ◌^◌, ℕ, Contains, length, IfOk, OnOk};
+ghost use Rattle.std.specs.Prelude.{◌≡◌, ◌↔◌, ◌⊎◌, ◌<◌, ◌^◌, ℕ, Contains, length, IfOk, OnOk};
 ghost use Rattle.bitmap_freelist.specs.Bitmap.{Has};
 ghost use Rattle.std.specs.List.{AllByRecursion};
 ghost use Rattle.unit_fields.specs.Prelude.{Ascends};
@@ -79,13 +79,18 @@ pub fn fresh_units(
     Ok(fresh)
 }
 
-/// The units that pages have left, in ascending order.
-pub fn released_units(alloc: Global, left: &[UnitNo]) -> Result<Items<UnitNo>, AllocError>
+/// The units that pages have left, and those of slots that no page names any more, in ascending order.
+pub fn released_units(
+    alloc: Global,
+    left: &[UnitNo],
+    freed: &[UnitNo],
+) -> Result<Items<UnitNo>, AllocError>
     ensures ascend { IfOk result (λ units. Ascends units) }
-    ensures left { IfOk result (λ units. (unit : ℕ) → Contains units unit ↔ Contains left.now unit) }
+    ensures left { IfOk result (λ units. (unit : ℕ) → Contains units unit ↔ (Contains left.now unit ⊎ Contains freed.now unit)) }
 {
     let mut set = UnitSet::new(alloc);
     insert_all(&mut set, left)?;
+    insert_all(&mut set, freed)?;
     let mut units = Items::new(alloc);
     for number in set.as_slice() {
         units.push(UnitNo::new(*number))?;

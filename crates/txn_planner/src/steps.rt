@@ -4,7 +4,7 @@ ghost use Rattle.std.specs.List.{flat_map};
 ghost use Rattle.std.specs.Option.{IfSome};
 ghost use Rattle.object_model.specs.Prelude.{is_too_large};
 ghost use Rattle.object_model.specs.declared.op.Op.TheVariants.{Touch, Truncate, Remove};
-ghost use Rattle.plan_drafts.specs.Prelude.{IsKnown, IsOnObject, IsInLimits, is_beyond, object_of, HasNames, page_unit, units_released, or_new, edit_on, edit_of, IsBare};
+ghost use Rattle.plan_drafts.specs.Prelude.{IsKnown, IsOnObject, IsInLimits, is_beyond, object_of, HasNames, page_unit, units_released, slots_released, or_new, edit_on, edit_of, IsBare};
 ghost use Rattle.unit_fields.specs.Prelude.{IsName};
 ghost use Rattle.object_rows.specs.Stores.{AreRowsOfAStore, AreRowsOfWidth};
 ghost use Rattle.value_changes.specs.Changed.{AreOfValues, ChangesValues};
@@ -25,6 +25,7 @@ use object_model::{Op, Refusal, Transaction};
 use object_rows::{coll_name_is_one, name_is_one};
 use page_edits::{Edited, PageWrite, edit};
 use plan_drafts::Draft;
+use plan_rows::SlotNo;
 use std::alloc::{AllocError, Global};
 use std::mem::replace;
 use unit_fields::{CollName, Name, UnitNo, Width};
@@ -93,13 +94,19 @@ fn check_object(
     Ok(())
 }
 
-// Adds the units that are released where these pages were left.
-fn add_left(left: &mut Vec<UnitNo>, pages: &[(u32, Place)]) -> Result<(), AllocError>
-    ensures { OnOk result (left.new.items ≡ left.old.items ++ flat_map (λ p. units_released p.1) pages.now) }
+// Adds the units that are released where these pages were left, and the slots that they leave.
+fn add_left(
+    left: &mut Vec<UnitNo>,
+    unshared: &mut Vec<SlotNo>,
+    pages: &[(u32, Place)],
+) -> Result<(), AllocError>
+    ensures left { OnOk result (left.new.items ≡ left.old.items ++ flat_map (λ p. units_released p.1) pages.now) }
+    ensures unshared { OnOk result (unshared.new.items ≡ unshared.old.items ++ flat_map (λ p. slots_released p.1) pages.now) }
 {
     for entry in pages {
-        if let At::Unit { unit, csum: _ } = entry.1.at {
-            left.push(unit)?;
+        match entry.1.at {
+            At::Unit { unit, csum: _ } => left.push(unit)?,
+            At::Slot { sbid, index } => unshared.push(SlotNo { sbid, index })?,
         }
     }
     Ok(())
@@ -131,7 +138,7 @@ fn add_edit(p: &mut Planning, edited: Edited) -> Result<(), AllocError>
     } = edited;
     add_writes(&mut p.writes, writes.into_vec())?;
     p.places.append(&mut places.into_vec())?;
-    add_left(&mut p.left, left.as_slice())?;
+    add_left(&mut p.left, &mut p.unshared, left.as_slice())?;
     p.taken = taken;
     Ok(())
 }
@@ -245,7 +252,7 @@ fn drop_object(
     let kept = kept_pages(alloc, touched.now.take());
     touched.left = has_left(touched.left, kept.pages());
     p.put_object(alloc, object, touched)?;
-    add_left(&mut p.left, kept.pages())
+    add_left(&mut p.left, &mut p.unshared, kept.pages())
 }
 
 // What an operation makes of its object's bytes, or of the object as a whole.

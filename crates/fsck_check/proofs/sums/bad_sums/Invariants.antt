@@ -18,6 +18,6 @@ invariant-loop-key g l = record {
   same : g.D.Device.disk l.dev ≡ g.D.Device.disk l.initial.dev;
   later : g.D.Device.faults l.initial.dev ≤ g.D.Device.faults l.dev;
   pages : List PageSum;
-  lists : ListsAll ComesBefore (InRowsTo (width_of l.fn.sup) (rows_from_to l.fn.rows.rows [] None) at) pages;
+  lists : ListsAll ComesBefore (InRowsTo (width_of l.fn.sup) l.fn.rows.rows (rows_from_to l.fn.rows.rows [] None) at) pages;
   sums : FindsBadSums (IsHeldAt (g.D.Device.disk l.initial.dev)) (map unit_sum pages) l.found;
 }

@@ -13,7 +13,7 @@ check_shard-requires-clause-inside g c =
     let spelled : SpellExtents c.args.width c.args.value.now c.deref.result.now =
     subst (SpellExtents c.args.width c.args.value.now) (sym c.deref.ensures.value)
     (of_some _ (λ (v : Vec Extent Global). SpellExtents c.args.width c.args.value.now v.items) c.in-Ok.decoded c.in-Some.extents c.in-Some.is c.in-Ok.ensures) in
-    shard_inside c.args.width c.args.key.now c.args.value.now (g.D.Device.disk c.args.dev.now).units c.deref.result.now c.requires.spells told spelled
+    shard_inside c.args.width c.args.rows.now.rows c.args.key.now c.args.value.now (g.D.Device.disk c.args.dev.now).units c.deref.result.now c.requires.spells told spelled
 
 pub returns-clause-sums : goal.returns-clause-sums
 returns-clause-sums g c =
@@ -22,6 +22,6 @@ returns-clause-sums g c =
     let spelled : SpellExtents c.args.width c.args.value.now c.deref.result.now =
     subst (SpellExtents c.args.width c.args.value.now) (sym c.deref.ensures.value)
     (of_some _ (λ (v : Vec Extent Global). SpellExtents c.args.width c.args.value.now v.items) c.in-Ok.decoded c.in-Some.extents c.in-Some.is c.in-Ok.ensures) in
-    on_ok c.check_shard.result (AddsSums held (shard_places c.deref.result.now) c.args.found.now c.check_shard.new.found)
-    (AddsRowSums c.args.width held c.args.key.now c.args.value.now c.args.found.now c.check_shard.new.found)
-    (shard_added c.args.width held c.args.key.now c.args.value.now c.deref.result.now c.args.found.now c.check_shard.new.found told spelled) c.check_shard.ensures.sums
+    on_ok c.check_shard.result (AddsSums held (shard_places c.args.width c.args.rows.now.rows c.deref.result.now) c.args.found.now c.check_shard.new.found)
+    (AddsRowSums c.args.width c.args.rows.now.rows held c.args.key.now c.args.value.now c.args.found.now c.check_shard.new.found)
+    (shard_added c.args.width c.args.rows.now.rows held c.args.key.now c.args.value.now c.deref.result.now c.args.found.now c.check_shard.new.found told spelled) c.check_shard.ensures.sums

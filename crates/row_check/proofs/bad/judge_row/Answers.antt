@@ -29,17 +29,18 @@ pass-requires c =
     let spells : SpellsRow c.width.result c.args.key.now c.args.value.now row = rw c.in-Some.is at c.in_ok-row.ensures in
     low_pages c.width.result c.in-Some.row c.args.value.now spells.fits
 
-pub returns-in-Ok-clause-judged : goal.returns-in-Ok-clause-judged
-returns-in-Ok-clause-judged c =
+pub returns-in_ok-pass-in-Ok-clause-judged : goal.returns-in_ok-pass-in-Ok-clause-judged
+returns-in_ok-pass-in-Ok-clause-judged c =
     let row = format_row c.in-Some.row c.args.value.now in
     let spells : SpellsRow c.width.result c.args.key.now c.args.value.now row = rw c.in-Some.is at c.in_ok-row.ensures in
     let is = subst (λ (w : Width). SpellsRow w c.args.key.now c.args.value.now row) c.width.ensures spells in
     judged_by c.args.sup.now c.args.rows.now.rows c.args.key.now c.args.value.now row c.in-Ok.fits is (c.in-Ok.ensures c.args.value.now)
 
-pub returns-in-Ok-clause-knows : goal.returns-in-Ok-clause-knows
-returns-in-Ok-clause-knows c =
+pub returns-in_ok-pass-in-Ok-clause-knows : goal.returns-in_ok-pass-in-Ok-clause-knows
+returns-in_ok-pass-in-Ok-clause-knows c =
     let row = format_row c.in-Some.row c.args.value.now in
     let spells : SpellsRow c.width.result c.args.key.now c.args.value.now row = rw c.in-Some.is at c.in_ok-row.ensures in
     let is = subst (λ (w : Width). SpellsRow w c.args.key.now c.args.value.now row) c.width.ensures spells in
     passed_row c.args.sup.now c.args.rows.now.rows c.args.key.now c.args.value.now c.requires.stands c.in-Some.row c.args.passed.now c.pass.new.self c.in-Ok.fits is
-    c.requires.knows c.in-Ok.ensures c.pass.ensures.last c.pass.ensures.placed c.pass.ensures.end
+    c.requires.knows c.in-Ok.ensures c.in_ok-pass-in-Ok.ensures.last c.in_ok-pass-in-Ok.ensures.placed c.in_ok-pass-in-Ok.ensures.end
+    c.in_ok-pass-in-Ok.ensures.namers

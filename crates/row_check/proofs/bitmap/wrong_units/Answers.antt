@@ -19,4 +19,5 @@ returns c =
       unmarked = unmarked_lists w rows o.owners.owned o.owners.shared c.in_ok-marked.marked o.ensures.owned o.ensures.shared c.in_ok-marked.ensures small c.in_ok-unmarked.unmarked.items c.in_ok-unmarked.ensures;
       doubled = doubled_lists w rows o.owners.owned o.owners.shared c.in_ok-marked.marked o.ensures.owned o.ensures.shared c.in_ok-marked.ensures small c.in_ok-doubled.doubled.items c.in_ok-doubled.ensures;
       others = others_owned w rows o.owners.owned o.owners.shared c.in_ok-marked.marked o.ensures.owned o.ensures.shared c.in_ok-marked.ensures small c.in_ok-leaked.leaked.items c.in_ok-leaked.ensures;
+      counts = c.in_ok-counts.ensures;
     }

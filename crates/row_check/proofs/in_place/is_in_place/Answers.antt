@@ -2,7 +2,7 @@ use Rattle.std.proofs.Common.{◌≡◌, true, false, sym, ◌∙◌}
 use Rattle.row_check.specs.Bad.{EndsBefore, IsBelow}
 use Rattle.row_format.specs.Prelude.{row_key}
 use Rattle.row_reading.specs.Reading.{format_row}
-use Rattle.row_check.proofs.Shards.{shard_answer, shard_refused}
+use Rattle.row_check.proofs.Shards.{earlier_here, shard_answer, shard_refused}
 use Rattle.row_check.proofs.Before.{object_before, collection_before, onode_before}
 use Rattle.row_check.proofs.in_place.is_in_place.Goals as goal
 
@@ -17,6 +17,11 @@ shard_stands-requires-clause-collection c =
 pub shard_stands-requires-clause-before : goal.shard_stands-requires-clause-before
 shard_stands-requires-clause-before c = λ size.
     onode_before c.args.sup.now c.args.rows.now.rows (IsBelow (row_key (format_row c.args.row.now c.requires.value))) c.args.passed.now c.requires.knows c.in-Shard.coll c.in-Shard.object size
+
+pub shard_stands-requires-clause-earlier : goal.shard_stands-requires-clause-earlier
+shard_stands-requires-clause-earlier c =
+    earlier_here c.args.sup.now c.args.rows.now.rows c.args.passed.now c.args.row.now c.in-Shard.coll c.in-Shard.object c.in-Shard.page c.in-Shard.extents
+    c.in-Shard.is c.requires
 
 pub returns-then-ends_before : goal.returns-then-ends_before
 returns-then-ends_before c =

@@ -47,7 +47,7 @@ loop-key-preserved c =
       marked = row_step c.args.sup.now rows c.requires es are at x c.as_slice.result.now c.as_slice-in-loop-key.result.now more.0 more.1 c.as_slice.ensures
           c.as_slice-in-loop-key.ensures c.loop-key.marks c.mark_row.new.marks c.loop-key.invariant.marked
           (subst (λ w. AreMarkedOn w c.as_slice.result.now c.as_slice-in-loop-key.result.now c.loop-key.marks c.mark_row.new.marks) c.width.ensures
-          c.mark_row.ensures);
+          c.in_ok-mark_row.ensures);
     }
 
 pub returns : goal.returns

@@ -7,8 +7,8 @@ use Rattle.row_format.specs.Prelude.{coll_key}
 use Rattle.row_changes.specs.Prelude.{ChangeMap}
 use Rattle.plan_drafts.specs.Prelude.{Held}
 use Rattle.page_edits.specs.Writes.{held_in}
-use Rattle.txn_planner.specs.Laying.{with_objects, coll_row, is_on_coll, with_rows, IsChangesOf}
-use Rattle.txn_planner.proofs.ChangedRows.{are_changes}
+use Rattle.txn_planner.specs.Laying.{with_objects, coll_row, is_on_coll, with_rows, with_blobs, IsChangesOf}
+use Rattle.txn_planner.proofs.BlobChanges.{are_changes}
 use Rattle.txn_planner.proofs.laying.changed_rows.Goals.{then-is_any_on_coll+in_ok-put_collection, else-is_any_on_coll}
 use Rattle.txn_planner.proofs.laying.changed_rows.Goals as goal
 
@@ -32,5 +32,8 @@ returns c =
           ∙ sym (ap either (sym on ∙ w.if-is_any_on_coll.true))
       | else-is_any_on_coll w ↦ w.changes-is ∙ put ∙ sym (ap either (sym on ∙ w.if-is_any_on_coll.false))
     ] in
-    subst (IsChangesOf width rows change p units held) (sym made)
-    (are_changes width rows change (subst IsCollName c.coll.ensures c.coll_name_is_one.ensures) p units held c.requires.units)
+    let all : c.put_blobs.new.changes ≡ with_blobs width (finite.entries c.args.lowered.now.blobs) (with_rows width rows change units held p) =
+    c.in_ok-put_blobs.ensures ∙ ap (with_blobs width (finite.entries c.args.lowered.now.blobs)) made in
+    subst (IsChangesOf width rows change p units held) (sym all)
+    (are_changes width rows change (subst IsCollName c.coll.ensures c.coll_name_is_one.ensures) p units held c.args.lowered.now c.requires.lowered
+    c.requires.units)

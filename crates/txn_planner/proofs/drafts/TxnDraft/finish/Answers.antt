@@ -1,4 +1,4 @@
-use Rattle.std.proofs.Common.{◌≡◌, ◌↔◌, ℕ, ◌<◌, List, Contains, length, map, refl, sym, ap, subst, ◌∙◌}
+use Rattle.std.proofs.Common.{◌≡◌, ◌↔◌, ◌⊎◌, ℕ, ◌<◌, List, Contains, length, map, refl, sym, ap, subst, ◌∙◌}
 use Rattle.std.specs.List.{AllByRecursion}
 use Rattle.std.specs.FinSet as set
 use Rattle.byte_maps.specs.ByteMap.{ByteMap}
@@ -6,13 +6,16 @@ use Rattle.meta_rows.specs.declared.row_op.RowOp.{RowOp}
 use Rattle.bitmap_freelist.specs.Bitmap.{Units, Has}
 use Rattle.plan_drafts.specs.Prelude.{filled, none_held}
 use Rattle.plan_rows.specs.declared.plan.FreshUnit.{FreshUnit}
+use Rattle.plan_rows.specs.declared.plan.SlotNo.{SlotNo}
+use Rattle.shared_blobs.specs.Lowering.{AreLowered}
+use Rattle.shared_blobs.specs.declared.lowering.Lowered.{Lowered}
 use Rattle.page_edits.specs.Writes.{CanBeMade, after_writes, held_in}
 use Rattle.txn_planner.specs.declared.touched.Touched.{Touched}
 use Rattle.txn_planner.specs.Finishing.{AreRowOps}
 use Rattle.txn_planner.specs.Laying.{AllTakeBelow, IsChangesOf}
 use Rattle.txn_planner.specs.Standing.{IsPutIn}
 use Rattle.txn_planner.proofs.PutPages.{listed}
-use Rattle.txn_planner.proofs.Finished.{can_be_made, as_many, named, below, all_below, is_plan}
+use Rattle.txn_planner.proofs.Finished.{can_be_made, as_many, named, below, all_below, released_by, is_plan}
 use Rattle.txn_planner.proofs.drafts.TxnDraft.finish.Goals as goal
 
 -- a set's numbers, listed, are those that were put
@@ -58,6 +61,10 @@ fresh_units-requires-clause-contents c =
     (all_below w change rows space draft c.requires.good c.requires.draft takings
     (are_put draft.planning.objects takings c.in_ok-takings.takings c.as_slice-2.ensures.units c.in_ok-takings.ensures))
 
+pub changed_rows-requires-clause-lowered : goal.changed_rows-requires-clause-lowered
+changed_rows-requires-clause-lowered c =
+    subst (λ (ss : List SlotNo). AreLowered c.args.width c.args.rows.now.rows ss c.in_ok-lowered.lowered) c.deref-3.ensures.value c.in_ok-lowered.ensures
+
 pub changed_rows-requires-clause-named : goal.changed_rows-requires-clause-named
 changed_rows-requires-clause-named c =
     named c.args.width c.args.txn.now c.args.rows.now.rows c.args.space.now c.args.self c.requires.good c.requires.draft
@@ -69,8 +76,8 @@ changed_rows-requires-clause-units c =
     let rows = c.args.rows.now.rows in
     let space = c.args.space.now in
     let draft = c.args.self in
-    let many : draft.planning.taken ≡ length c.deref-4.result.now =
-    sym (as_many w change rows space draft c.requires.good c.requires.draft) ∙ ap (λ (us : List ℕ). length us) (sym c.deref-4.ensures.value) in
+    let many : draft.planning.taken ≡ length c.deref-6.result.now =
+    sym (as_many w change rows space draft c.requires.good c.requires.draft) ∙ ap (λ (us : List ℕ). length us) (sym c.deref-6.ensures.value) in
     subst (λ n. AllTakeBelow n draft.planning.objects) many (below w change rows space draft c.requires.good c.requires.draft)
 
 pub changed_rows-requires-clause-contents : goal.changed_rows-requires-clause-contents
@@ -90,6 +97,7 @@ returns-clause-ok c =
     let p = draft.planning in
     let contents : List (List ℕ) = c.in_ok-held.held in
     let fresh : List FreshUnit = c.in_ok-fresh.fresh in
+    let lowered : Lowered = c.in_ok-lowered.lowered in
     let released : List ℕ = c.in_ok-released.released in
     let ops : List RowOp = c.in_ok-ops.ops in
     is_plan w change rows c.args.space.now draft c.requires.good c.requires.draft c.args.read c.requires.read
@@ -105,13 +113,17 @@ returns-clause-ok c =
       fresh = c.in_ok-fresh.ensures.filled
           ∙ (λ i. filled (c.deref-2.ensures.value i) (held_in (c.as_slice-3.ensures i)) c.as_slice-2.result.now);
       csums = c.in_ok-fresh.ensures.csums;
-      are_left = subst (λ (l : List ℕ). (unit : ℕ) → Contains released unit ↔ Contains l unit) c.deref-3.ensures.value c.in_ok-released.ensures.left;
+      are_left = λ unit. released_by w rows p.unshared.items p.left.items released lowered
+          (subst (λ (ss : List SlotNo). AreLowered w rows ss lowered) c.deref-3.ensures.value c.in_ok-lowered.ensures) unit
+          (subst (λ (l : List ℕ). Contains released unit ↔ (Contains l unit ⊎ Contains lowered.freed.items unit)) c.deref-4.ensures.value
+          (subst (λ (l : List ℕ). Contains released unit ↔ (Contains c.deref-4.result.now unit ⊎ Contains l unit)) c.deref-5.ensures.value
+          (c.in_ok-released.ensures.left unit)));
       left_ascend = c.in_ok-released.ensures.ascend;
       changes = c.in_ok-changes.changes;
       are_changes =
           let changes = c.in_ok-changes.changes in
           subst (λ (l : List (List ℕ)). IsChangesOf w rows change p draft.units.items (held_in l) changes) c.as_slice-4.ensures
-          (subst (λ (us : List ℕ). IsChangesOf w rows change p us (held_in c.as_slice-4.result.now) changes) c.deref-4.ensures.value
+          (subst (λ (us : List ℕ). IsChangesOf w rows change p us (held_in c.as_slice-4.result.now) changes) c.deref-6.ensures.value
           c.in_ok-changes.ensures);
       ops = subst (λ (l : List ℕ). AreRowOps rows c.in_ok-changes.changes (map (λ (f : FreshUnit). f.unit) fresh) l ops) c.as_slice-6.ensures
           (subst (λ (l : List FreshUnit). AreRowOps rows c.in_ok-changes.changes (map (λ (f : FreshUnit). f.unit) l) c.as_slice-6.result.now ops)

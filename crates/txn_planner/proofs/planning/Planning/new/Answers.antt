@@ -21,4 +21,5 @@ returns-clause-state c width layouts = record {
         λ k. all.0 (subst (λ us. Contains us unit) c.new-5.ensures.items k),
         λ l. subst (λ us. Contains us unit) (sym c.new-5.ensures.items) (all.1 l),
       );
+  unshared = c.new-6.ensures.items;
 }

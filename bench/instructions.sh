@@ -18,6 +18,15 @@ told() {
   printf '%-52s %11d  %s %d\n' "$1" "$3" "$verdict" "$2" | tee -a "$made/told"
 }
 
+# beside PART NAME MORE COUNT: what one of so many lines takes, of those in the variable `script`, on pages on slots of shared blobs: at most so many
+# hundredths of what it takes on pages of the objects' own, and so many instructions more.
+beside() {
+  local own
+  own=$(count_of "$4" <<<"$script")
+  python3 "$here/shared_pages.py" "$made/disk"
+  told "$2" $((own * $1 / 100 + $3)) "$(count_of "$4" <<<"$script")"
+}
+
 # each NAME BOUND COUNT: the instructions of one of so many lines from standard input.
 each() {
   local found
@@ -83,4 +92,31 @@ told 'opening two empty halves of 65536 units' 87000000 "$(counted "$made/empty"
   for ((i = 0; i < 8000; i++)); do printf 'write 1.0_head o%05d 0 fill:%02x:4096\n' $((i * 2477 % 8000)) $((i % 256)); done
 } | set_up 8192 30000
 told 'opening 8000 objects of a record each, scrambled' 67900000 "$(counted "$made/empty")"
+
+# Pages on slots of shared blobs, beside the same on units of the objects' own.
+{
+  echo 'mkcoll 1.0_head'
+  for ((i = 0; i < 200; i++)); do printf 'write 1.0_head o%d 0 fill:%02x:4096\n' "$i" "$i"; done
+} | set_up 4096 12000
+script=$(for ((i = 0; i < 200; i++)); do printf 'write 1.0_head o%d 0 fill:%02x:4096\n' "$i" $((i + 1)); done)
+beside 140 'a page over one on a blob of one slot' 200 200
+{
+  echo 'mkcoll 1.0_head'
+  for ((i = 0; i < 8; i++)); do printf 'write 1.0_head o%d 0 fill:%02x:1044480\n' "$i" "$i"; done
+} | set_up 4096 12000
+script=$(for ((i = 0; i < 200; i++)); do printf 'write 1.0_head o%d %d fill:%02x:4096\n' $((i % 8)) $((i / 8 * 40960)) "$i"; done)
+beside 140 'a page over one on a blob of 255 slots' 51000 200
+{
+  echo 'mkcoll 1.0_head'
+  printf 'write 1.0_head a 0 fill:61:262144\n'
+} | set_up 4096 12000
+script=$(for ((i = 0; i < 40; i++)); do printf 'read 1.0_head a 0 262144\n'; done)
+beside 110 'a read of 64 pages on slots' 0 40
+{
+  echo 'mkcoll 1.0_head'
+  for ((i = 0; i < 157; i++)); do printf 'write 1.0_head o%d 0 fill:%02x:1044480\n' "$i" "$i"; done
+} | set_up 4096 60000
+own=$(counted "$made/empty")
+python3 "$here/shared_pages.py" "$made/disk"
+told 'opening 40035 pages on slots' $((own * 3 / 2)) "$(counted "$made/empty")"
 ! grep -q BEYOND "$made/told"

@@ -3,12 +3,13 @@
 that is written here from the documents and shares nothing with the crates: each reply, the last line, `dump`, and the device, read byte
 by byte. The model draws from the seed what comes next, as the program does, so it knows in which order clients and steps come. The
 device must have exactly the slots, rows and objects of the model, records of the same lengths, in the other half no unit but the stale ones
-may differ from zeros, each page must have its checksum, and the bitmap must have exactly the units that objects own. Most halves are so
-small that they are switched several times, and what a device had before it was made may be records of numbers that come next. Between runs
-shards may be cut otherwise, by hand. One run in five is killed at a call for a job that is drawn, that of some step, of the opening or of a
-reply: then the device must be that of the model after some of the commits, from the first on, with all whose second flush had returned, and
-all that the replies call `ok`. Where strace can't trace a program these runs are whole ones, which is said. Before these rounds the program
-runs scripts whose replies, slots and records were reckoned by hand.
+may differ from zeros, each page must have its checksum, each slot of a shared blob the number of the pages that stand there, and the bitmap
+must have exactly the units of objects and of such slots. Most halves are so small that they are switched several times, and what a device
+had before it was made may be records of numbers that come next. Between runs shards may be cut otherwise, and pages be put on shared blobs,
+by hand. One run in five is killed at a call for a job that is drawn, that of some step, of the opening or of a reply: then the device must
+be that of the model after some of the commits, from the first on, with all whose second flush had returned, and all that the replies call
+`ok`. Where strace can't trace a program these runs are whole ones, which is said. Before these rounds the program runs scripts whose
+replies, slots and records were reckoned by hand.
 
 Usage: tests/model.py [ROUNDS] [SEED] [PROGRAM], or tests/model.py --self-test, which runs the model alone on the scripts that were reckoned
 by hand, and compares the events too. It ends with status 1 where something differs, and says in which round, or where no round switched
@@ -26,6 +27,7 @@ import tempfile
 from collections import deque
 from dataclasses import dataclass, field, replace
 from functools import partial
+from typing import NamedTuple
 
 sys.dont_write_bytecode = True  # the module stands beside this file, in the checkout
 from log_record import AFTER_BYTE, crc32c, record_units, set_op, slot_unit
@@ -81,10 +83,32 @@ def checksum(data):
 # ---- the model
 
 
+class Slot(NamedTuple):
+    """A slot of a shared blob: the blob's number, and which of its slots."""
+
+    blob: int
+    index: int
+
+    def next(self, count):
+        return Slot(self.blob, self.index + count)
+
+
+class Blob(NamedTuple):
+    """The first unit of a shared blob, and how many slots it has. What it keeps of them follows from the pages that stand there."""
+
+    unit: int
+    slots: int
+
+
+def next_place(place, count):
+    """The place so many behind a unit or a slot."""
+    return place.next(count) if isinstance(place, Slot) else place + count
+
+
 @dataclass
 class Object:
-    """Its size in bytes, for each page that isn't a hole its unit and its bytes, its attributes, its header, and its omap. Where its shards were
-    cut by another rule than a store's, the pages at which they begin."""
+    """Its size in bytes, for each page that isn't a hole its unit or its slot and its bytes, its attributes, its header, and its omap. Where its
+    shards were cut by another rule than a store's, the pages at which they begin."""
 
     size: int = 0
     pages: dict = field(default_factory=dict)
@@ -114,9 +138,12 @@ class Object:
         """The first page and the value of each of its shards: from the front on, an extent joins the last shard where that has at most 1200
         bytes then, and else begins the next. What was cut otherwise stays so until a page comes, goes or moves."""
         shards = []
-        for first, count, unit in self.extents():
+        for first, count, place in self.extents():
             sums = [checksum_of_page(self.pages[page][1]) for page in range(first, first + count)]
-            extent = struct.pack(f"<IHBI{count}I", first, count, 0, unit, *sums)
+            if isinstance(place, Slot):
+                extent = struct.pack("<IHBQH", first, count, 1, *place)
+            else:
+                extent = struct.pack(f"<IHBI{count}I", first, count, 0, place, *sums)
             joins = shards and (first not in self.cut if self.cut else len(shards[-1][1]) + len(extent) <= SHARD_BYTES)
             if joins:
                 shards[-1] = shards[-1][0], shards[-1][1] + extent
@@ -125,18 +152,20 @@ class Object:
         return shards
 
     def units(self):
-        return {unit for unit, _ in self.pages.values()}
+        """The units of its own."""
+        return {place for place, _ in self.pages.values() if not isinstance(place, Slot)}
 
     def extents(self):
-        """Its pages as runs [first page, pages, first unit]: both consecutive, at most 256 at a time."""
+        """Its pages as runs [first page, pages, first unit or slot]: both consecutive, at most 256 at a time."""
         runs = []
         for page in sorted(self.pages):
-            unit = self.pages[page][0]
+            place = self.pages[page][0]
             last = runs[-1] if runs else None
-            if last and last[0] + last[1] == page and last[2] + last[1] == unit and last[1] < RUN_PAGES:
+            is_alike = last and isinstance(last[2], Slot) == isinstance(place, Slot)
+            if is_alike and last[0] + last[1] == page and next_place(*last[2:0:-1]) == place and last[1] < RUN_PAGES:
                 last[1] += 1
             else:
-                runs.append([page, 1, unit])
+                runs.append([page, 1, place])
         return runs
 
 
@@ -188,14 +217,14 @@ def runs_of(units):
 
 
 class Store:
-    """What a store has: collections of objects, free units, and how many bytes the operations have that set the rows of its objects. Of its
-    log: the slots, each as its epoch and its first number, the next record's number, how many bytes each record in the active half has,
+    """What a store has: collections of objects, shared blobs, free units, and how many bytes the operations have that set the rows of all of
+    them. Of its log: the slots, each as its epoch and its first number, the next record's number, how many bytes each record in the active half has,
     and which units of the other half may not be zero. Of a run: how many commits it has. Objects aren't changed, and the objects of a
     collection are replaced as a whole, so that copies share them."""
 
     def __init__(self, units, half):
         self.units, self.half = units, half
-        self.colls, self.free, self.row_bytes = {}, set(range(2 * half + 2, units)), 0
+        self.colls, self.blobs, self.free, self.row_bytes = {}, {}, set(range(2 * half + 2, units)), 0
         self.slots, self.number, self.lengths, self.stale = [(0, 0), None], 0, [], set()
         self.accepted, self.room, self.commits = None, 0, 0
 
@@ -248,7 +277,14 @@ class Store:
 
     def rows(self):
         """Its rows, but for the bitmap."""
-        return rows_of(self.colls)
+        return rows_of(self.colls, self.blobs)
+
+    def owned(self):
+        """The units of objects and of slots that pages name."""
+        made = Rows(self.blobs)
+        for coll, objects in self.colls.items():
+            made.add_other(coll, objects, None)
+        return made.units
 
     def put(self, coll, objects):
         """Gives a collection these objects; with None it goes."""
@@ -284,7 +320,7 @@ class Store:
         for name, it in (objects or {}).items():
             if it.cut and it.pages != before[name].pages:
                 objects[name] = replace(it, cut=None)
-        old, new = Rows(), Rows()
+        old, new = Rows(self.blobs), Rows(self.blobs)
         old.add_other(coll, before, after)
         new.add_other(coll, after, before)
         body = difference(old.rows, new.rows) + bits(old.units ^ new.units)
@@ -342,13 +378,13 @@ def active(slots):
 
 
 class Rows:
-    """The rows of a collection that may differ between two states of it, and the units of their objects."""
+    """The rows of a collection that may differ between two states of it, and the units of their objects and blobs."""
 
-    def __init__(self):
-        self.rows, self.units = {}, set()
+    def __init__(self, blobs):
+        self.blobs, self.rows, self.units = blobs, {}, set()
 
     def add_other(self, coll, objects, others):
-        """Adds those of a collection's objects that aren't the same in the other state."""
+        """Adds those of a collection's objects that aren't the same in the other state, and those of its blobs."""
         if objects is None:
             return
         self.rows[b"C" + coll] = b""
@@ -356,11 +392,31 @@ class Rows:
             if (others or {}).get(name) is not it:
                 self.rows |= it.rows(coll, name)
                 self.units |= it.units()
+        if self.blobs:
+            self.add_blobs(counted(objects.values()))
+
+    def add_blobs(self, counts):
+        """Adds those of the blobs that pages name, by the counts and the checksums of their slots."""
+        for number in {slot.blob for slot in counts}:
+            unit, slots = self.blobs[number]
+            kept = [counts.get(Slot(number, index), (0, 0)) for index in range(slots)]
+            value = struct.pack("<IH", unit, slots) + b"".join(struct.pack("<II", crc, count) for count, crc in kept)
+            self.rows[b"X" + struct.pack(">Q", number)] = value
+            self.units |= {unit + index for index, (count, _) in enumerate(kept) if count}
 
 
-def rows_of(colls):
-    """The rows of these collections and their objects."""
-    made = Rows()
+def counted(objects):
+    """Of each slot on which pages of these objects stand, how many do, and the checksum of their bytes."""
+    counts = {}
+    for place, held in (page for it in objects for page in it.pages.values()):
+        if isinstance(place, Slot):
+            counts[place] = counts.get(place, (0, 0))[0] + 1, checksum_of_page(held)
+    return counts
+
+
+def rows_of(colls, blobs):
+    """The rows of these collections, their objects and their blobs."""
+    made = Rows(blobs)
     for coll, objects in colls.items():
         made.add_other(coll, objects, None)
     return made.rows
@@ -389,8 +445,8 @@ class Draft:
     def lay(self, units):
         """Puts the page of each taking on the unit of that number. A page that was put and cleared has had its taking all the same."""
         for name, it in (self.objects or {}).items():
-            if any(unit < 0 for unit, _ in it.pages.values()):
-                laid = {page: (units[-1 - unit] if unit < 0 else unit, held) for page, (unit, held) in it.pages.items()}
+            if any(is_taking(place) for place, _ in it.pages.values()):
+                laid = {page: (units[-1 - place] if is_taking(place) else place, held) for page, (place, held) in it.pages.items()}
                 self.objects[name] = replace(it, pages=laid)
 
     def mkcoll(self):
@@ -433,13 +489,13 @@ class Draft:
         after = replace(self.objects.get(name, Object()), size=size)
         after.pages = dict(after.pages)
         for page in sorted(pages):
-            unit, _ = after.pages.pop(page, (0, None))
+            place, _ = after.pages.pop(page, (0, None))
             if pages[page] is None:
                 continue
-            if unit >= 0:
+            if not is_taking(place):
                 self.takings += 1
-                unit = -self.takings
-            after.pages[page] = unit, pages[page]
+                place = -self.takings
+            after.pages[page] = place, pages[page]
         self.objects[name] = after
 
     def remove(self, name):
@@ -480,6 +536,11 @@ class Draft:
     def omapheader(self, name, word):
         value = data_of(word)
         self.change_values(name, [value], header=lambda it: value)
+
+
+def is_taking(place):
+    """Whether a transaction that isn't laid yet has put the page."""
+    return not isinstance(place, Slot) and place < 0
 
 
 def payload(_kind, _name=None, *words):
@@ -792,11 +853,15 @@ class Device:
         self.rows, self.lengths, self.number = self.records(active(self.slots))
         epoch = active(self.slots)[0]
         self.behind, self.stale = self.not_zero(epoch) - set(range(sum(map(units_in, self.lengths)))), self.not_zero(epoch + 1)
-        self.colls, self.owned, self.marked, self.values = {}, set(), set(), []
+        self.colls, self.blobs, self.slots_kept, self.owned, self.marked, self.values = {}, {}, {}, set(), set(), []
+        for key in sorted(self.rows):
+            if key[:1] == b"X":
+                self.read_blob(key, self.rows[key])
         for key in sorted(self.rows):
             self.read_row(key, self.rows[key])
         for key, value in self.values:
             self.read_value(key, value)
+        self.judge_counts()
         expect(self.owned == self.marked, f"the bitmap differs in {sorted(self.owned ^ self.marked)[:5]}")
 
     def at(self, unit, count=1):
@@ -848,7 +913,7 @@ class Device:
         elif key[:1] in (b"A", b"M"):
             # The row of the object comes later.
             self.values.append((key, value))
-        else:
+        elif key[:1] != b"X":
             expect(key[:1] == b"O", f"the key {key!r}")
             coll, name, rest = key[1:].split(b"\0", 2)
             if rest == b"o":
@@ -870,19 +935,56 @@ class Device:
             expect(rest == b"-" and value, f"the key {key!r}")
             it.header = value
 
+    def read_blob(self, key, value):
+        number, (unit, slots) = struct.unpack(">Q", key[1:])[0], struct.unpack_from("<IH", value)
+        expect(0 < slots <= RUN_PAGES and len(value) == 6 + 8 * slots and number < 2**62, f"blob {number}")
+        self.blobs[number] = Blob(unit, slots)
+        for index in range(slots):
+            self.slots_kept[Slot(number, index)] = struct.unpack_from("<II", value, 6 + 8 * index)
+
+    def judge_counts(self):
+        """Each slot has the number of the pages that stand there as its count, and no checksum where none does; a blob has one that counts."""
+        counts = counted(it for objects in self.colls.values() for it in objects.values())
+        for slot, (_, count) in self.slots_kept.items():
+            expect(count == counts.get(slot, (0, 0))[0], f"the count of slot {slot.index} of blob {slot.blob}")
+            if count:
+                self.own(self.blobs[slot.blob].unit + slot.index)
+        expect({slot.blob for slot, (_, count) in self.slots_kept.items() if count} == set(self.blobs), "a blob that no page names")
+        expect(not any(crc for crc, count in self.slots_kept.values() if not count), "a checksum of a slot that no page names")
+
+    def own(self, unit):
+        expect(unit not in self.owned, f"two owners of unit {unit}")
+        self.owned.add(unit)
+
+    def read_page(self, unit, kept):
+        held = self.at(unit)
+        expect(checksum(held) == kept, f"the checksum of unit {unit}")
+        return held
+
     def read_extents(self, owner, value):
         at = 0
         while at < len(value):
-            first, count, kind, unit = struct.unpack_from("<IHBI", value, at)
-            sums = struct.unpack_from(f"<{count}I", value, at + 11)
-            expect(kind == 0 and 0 < count <= RUN_PAGES, "an extent")
-            for page, kept in enumerate(sums):
-                held = self.at(unit + page)
-                expect(checksum(held) == kept, f"the checksum of unit {unit + page}")
-                expect(unit + page not in self.owned, f"two owners of unit {unit + page}")
-                self.owned.add(unit + page)
-                owner.pages[first + page] = unit + page, held
-            at += 11 + 4 * count
+            first, count, kind = struct.unpack_from("<IHB", value, at)
+            expect(kind in (0, 1) and 0 < count <= RUN_PAGES, "an extent")
+            if kind == 1:
+                self.read_slots(owner, first, count, Slot(*struct.unpack_from("<QH", value, at + 7)))
+                at += 17
+            else:
+                (unit,) = struct.unpack_from("<I", value, at + 7)
+                self.read_units(owner, first, unit, struct.unpack_from(f"<{count}I", value, at + 11))
+                at += 11 + 4 * count
+
+    def read_units(self, owner, first, unit, sums):
+        for page, kept in enumerate(sums):
+            self.own(unit + page)
+            owner.pages[first + page] = unit + page, self.read_page(unit + page, kept)
+
+    def read_slots(self, owner, first, count, place):
+        for page in range(count):
+            slot = place.next(page)
+            expect(slot in self.slots_kept, f"there is no slot {slot.index} of blob {slot.blob}")
+            held = self.read_page(self.blobs[slot.blob].unit + slot.index, self.slots_kept[slot][0])
+            owner.pages[first + page] = slot, held
 
     def expect_rows(self, wanted):
         """But for the bitmap it has these rows."""
@@ -1159,32 +1261,60 @@ def lay_stale(dice, units):
             it.write(dice.choice(held) or record_units(max(unit - first, 0), [set_op(b"C9.0_head", b"")]))
 
 
-def cut_otherwise(dice, store):
-    """Lays all rows on the device as one record, with shards that are cut anywhere between extents, as another program may have. The store
-    that a mount finds then, or the same where there are no rows or a half has no room for these."""
-    other = store.copy()
-    for coll, objects in store.colls.items():
-        other.colls[coll] = {name: replace(it, cut=drawn_cut(dice, it)) for name, it in objects.items()}
-    rows = other.rows()
-    other.row_bytes = set_bytes(rows)
+def lay(path, store):
+    """Lays all rows of a store on a device that has its pages, as one record in the active half. The store that a mount finds then, or None where
+    there are no rows or a half has no room for these."""
+    other, rows, owned = store.copy(), store.rows(), store.owned()
+    other.row_bytes, other.free = set_bytes(rows), set(range(2 * store.half + 2, store.units)) - owned
     if not rows or other.rows_units() > other.half:
-        return store
-    owned = set(range(2 * store.half + 2, store.units)) - store.free
+        return None
     for row in {unit // ROW_UNITS for unit in owned}:
         marks = sum(1 << unit % ROW_UNITS for unit in owned if unit // ROW_UNITS == row)
         rows[b"b" + struct.pack(">I", row)] = marks.to_bytes(ROW_UNITS // 8, "little")
     other.lengths, other.stale, slot = [other.rows_length()], set(), store.epoch % 2
     other.slots[slot], other.number = (store.epoch, store.number), store.number + 1
     record = record_units(store.number, [set_op(key, rows[key]) for key in sorted(rows)])
-    with open("device", "r+b") as it:
+    with open(path, "r+b") as it:
         it.seek(UNIT * slot)
         it.write(slot_unit(store.units, store.half, *other.slots[slot]))
         it.seek(2 * UNIT)
         halves = [record.ljust(UNIT * store.half, b"\0"), bytes(UNIT * store.half)]
         it.write(halves[slot] + halves[1 - slot])
+    return other
+
+
+def cut_otherwise(dice, store):
+    """Lays all rows with shards that are cut anywhere between extents, as another program may have, and with pages on shared blobs, which nothing
+    makes so far. The store that a mount finds then, or the same where that can't be."""
+    changed = store.copy()
+    if dice.random() < 0.6:
+        share_pages(dice, changed)
+    for coll, objects in changed.colls.items():
+        changed.colls[coll] = {name: replace(it, cut=drawn_cut(dice, it)) for name, it in objects.items()}
+    other = lay("device", changed)
+    if other is None:
+        return store
     left = Device("device")
     expect(not left.differences(other), f"the device was laid with other {left.differences(other)}")
     return other
+
+
+def share_pages(dice, store):
+    """Has runs of objects' pages stand on slots of new blobs, and whole pages of the same collection on some of these slots too, whatever they
+    had. So some slots are named once or often, and some by no page any more."""
+    store.blobs = dict(store.blobs)
+    for coll, objects in store.colls.items():
+        store.colls[coll] = {name: replace(it, pages=dict(it.pages)) for name, it in objects.items()}
+        objects = [*store.colls[coll].values()]
+        runs = [(it.pages, run) for it in objects for run in it.extents() if not isinstance(run[2], Slot)]
+        for pages, (first, count, unit) in dice.sample(runs, (len(runs) + 1) // 2):
+            number = max(store.blobs, default=0) + dice.choice([1, 1, 300])
+            store.blobs[number] = Blob(unit, count)
+            pages.update({first + at: (Slot(number, at), pages[first + at][1]) for at in range(count)})
+        on_slots = [page for it in objects for page in it.pages.values() if isinstance(page[0], Slot)]
+        for it in objects if on_slots else ():
+            whole = range(it.size // UNIT)
+            it.pages.update({at: dice.choice(on_slots) for at in dice.sample(whole, min(len(whole), dice.choice([0, 1, 3, 20])))})
 
 
 def drawn_cut(dice, it):
@@ -1504,7 +1634,7 @@ def check_program(program, units, scripts, seed, wanted, half=8, held=0, _events
     printed(program, "mkfs", "device", "--half", str(half), "--units", str(units))
     expect_same(shown(printed(program, "step", "device", "--seed", str(seed), *names)), wanted.split(", "), f"seed {seed}")
     found = Device("device")
-    found.expect_rows(rows_of(found.colls))
+    found.expect_rows(rows_of(found.colls, found.blobs))
     expect(slots in (None, found.slots), f"the slots are {found.slots}, not {slots}")
     expect_lengths(found, lengths)
 

@@ -4,7 +4,8 @@
 use crate::{
     bitmap_freelist_tests, crc32c_csum_tests, extent_shards_tests, log_replay_tests,
     meta_log_tests, meta_rows_tests, meta_store_tests, onode_codec_tests, row_check_tests,
-    script_text_tests, txn_codec_tests, unit_allocator_tests, unit_fields_tests,
+    script_text_tests, shared_blobs_tests, txn_codec_tests, unit_allocator_tests,
+    unit_fields_tests,
 };
 use std::alloc::{AllocError, Global};
 use std::test::*;
@@ -65,6 +66,10 @@ fn first_wrong(alloc: Global) -> Option<Wrong> {
         (
             "long scripts",
             place(script_text_tests::first_wrong_long(alloc)),
+        ),
+        (
+            "slots of a blob",
+            place(shared_blobs_tests::first_wrong(alloc)),
         ),
         ("operations", place(txn_codec_tests::first_wrong(alloc))),
         (

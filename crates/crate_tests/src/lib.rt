@@ -31,6 +31,8 @@ mod row_check_tests;
 #[cfg(test)]
 mod script_text_tests;
 #[cfg(test)]
+mod shared_blobs_tests;
+#[cfg(test)]
 mod txn_codec_tests;
 #[cfg(test)]
 mod unit_allocator_tests;

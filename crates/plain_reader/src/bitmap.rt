@@ -1,6 +1,7 @@
-//! What the rows say of each data unit: its bit in the freelist's bitmap, and the pages that stand on it.
+//! What the rows say of each data unit: its bit in the freelist's bitmap, and the page or the slot of a shared blob that it is of.
 
-use crate::object::{is_shard_key, read_extent};
+use crate::blobs::{blob_number, pages_on, slot_count, slot_in};
+use crate::object::{Run, is_shard_key, read_extent};
 use crate::reader::Reader;
 use byte_maps::Bytes;
 use std::alloc::Global;
@@ -56,11 +57,19 @@ impl Marks {
         }
     }
 
-    /// Takes away the marks of an extent's units.
+    /// Takes away the marks of so many units.
+    fn unmark_units(&mut self, first: u64, count: u64) {
+        for i in 0..count {
+            self.turn(first.saturating_add(i), false);
+        }
+    }
+
+    /// Takes away the marks of an extent's units. Those of slots go with their blob.
     fn unmark_extent(&mut self, fields: &mut Reader<'_>) {
         let extent = read_extent(fields);
-        for i in 0..extent.count {
-            self.turn(extent.unit.saturating_add(i), false);
+        match extent.run {
+            Run::Units { first, .. } => self.unmark_units(first, extent.count),
+            Run::Slots { .. } => {}
         }
     }
 
@@ -86,12 +95,49 @@ impl Marks {
         }
     }
 
-    /// Takes away the mark of each page's unit.
+    /// Takes away the mark of a slot's unit, where pages stand there: as many as its count says. Tells whether some do.
+    fn unmark_slot(
+        &mut self,
+        rows: &[(Bytes, Bytes)],
+        blob: u64,
+        value: &[u8],
+        index: u64,
+    ) -> bool {
+        let Some(slot) = slot_in(value, index) else {
+            return false;
+        };
+        let is_named = slot.count != 0;
+        if is_named {
+            self.turn(slot.unit, false);
+        }
+        self.are_good = self.are_good
+            && slot.count == pages_on(rows, blob, index)
+            && (is_named || slot.sum == 0);
+        is_named
+    }
+
+    /// Takes away the marks of a blob's units on which pages stand. There must be some.
+    fn unmark_blob(&mut self, rows: &[(Bytes, Bytes)], blob: u64, value: &[u8]) {
+        let mut is_named = false;
+        for index in 0..slot_count(value) {
+            is_named = self.unmark_slot(rows, blob, value, index) || is_named;
+        }
+        self.are_good = self.are_good && is_named;
+    }
+
+    /// Takes away the marks of a row's units.
+    fn unmark_row(&mut self, rows: &[(Bytes, Bytes)], key: &[u8], value: &[u8]) {
+        if let Some(blob) = blob_number(key) {
+            self.unmark_blob(rows, blob, value);
+        } else if is_shard_key(key) {
+            self.unmark_shard(value);
+        }
+    }
+
+    /// Takes away the marks of the units of all pages and slots.
     fn unmark_all(&mut self, rows: &[(Bytes, Bytes)]) {
         for row in rows {
-            if is_shard_key(row.0.as_slice()) {
-                self.unmark_shard(row.1.as_slice());
-            }
+            self.unmark_row(rows, row.0.as_slice(), row.1.as_slice());
         }
     }
 
@@ -119,7 +165,8 @@ pub fn row_number(key: &[u8]) -> Option<u64> {
 }
 
 /// Of so many data units from the first one on, those whose bit is 1 and on which no page stands, ascending. None where a bit is 1 that is
-/// of no data unit, or a page stands on a unit whose bit is 0, or on one on which another page stands; or where memory runs out.
+/// of no data unit, or a page or a slot that counts pages is on a unit whose bit is 0, or on one of another page or slot; where the count of a
+/// slot isn't the number of pages that stand there; or where memory runs out.
 pub fn leaked_units(
     alloc: Global,
     rows: &[(Bytes, Bytes)],

@@ -1,6 +1,7 @@
 //! What an image of a device holds.
 
 use crate::bitmap::{leaked_units, row_number};
+use crate::blobs::{blob_number, is_blob};
 use crate::object::{Object, read_object};
 use crate::reader::{are_zeros, number_at};
 use crate::record::{Rows, make_all, read_record};
@@ -102,12 +103,13 @@ fn are_bits(value: &[u8]) -> bool {
     value.len() == 16 && !are_zeros(value, 0)
 }
 
-/// Whether the row is one of a collection, of an object, of a shard, of a value of an object, or of the bitmap.
+/// Whether the row is one of a collection, of an object, of a shard, of a value of an object, of a shared blob, or of the bitmap.
 fn is_known(row: &(Bytes, Bytes)) -> bool {
     match row.0.as_slice() {
         [b'C', ..] => row.1.is_empty(),
         [b'O', ..] => !row.1.is_empty(),
         key @ ([b'A', ..] | [b'M', ..]) => is_value(key, row.1.as_slice()),
+        key @ [b'X', ..] => blob_number(key).is_some() && is_blob(row.1.as_slice()),
         key => row_number(key).is_some() && are_bits(row.1.as_slice()),
     }
 }
@@ -173,7 +175,7 @@ impl Found {
     pub fn len(&self) -> usize {
         let mut count = 0usize;
         for row in self.rows.entries() {
-            if row_number(row.0.as_slice()).is_none() {
+            if !matches!(row.0.as_slice(), [b'X' | b'b', ..]) {
                 count = count.wrapping_add(1);
             }
         }
@@ -186,7 +188,8 @@ impl Found {
     }
 
     /// The units that the bitmap marks and on which no page stands, ascending. None where the bitmap isn't exact but for these: a bit is 1
-    /// that is of no data unit, or a page stands on a unit whose bit is 0, or on one on which another page stands; or where memory runs out.
+    /// that is of no data unit, or a page or a slot that counts pages is on a unit whose bit is 0, or on one of another page or slot; where
+    /// the count of a slot isn't the number of pages that stand there; or where memory runs out.
     pub fn leaked(&self) -> Option<Vec<u64>> {
         leaked_units(self.alloc, self.rows.entries(), self.first, self.count)
     }

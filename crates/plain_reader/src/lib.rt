@@ -5,6 +5,7 @@
 #![tactic(auto)]
 
 mod bitmap;
+mod blobs;
 mod counts;
 mod history;
 mod image;

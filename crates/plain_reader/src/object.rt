@@ -1,5 +1,6 @@
 //! The bytes of an object, of its rows and its pages.
 
+use crate::blobs::slot_of;
 use crate::image::{start_of, unit};
 use crate::reader::{Reader, number_at};
 use crate::values::{behind_name, behind_names};
@@ -55,34 +56,70 @@ fn onode_of<'a>(rows: &'a [(Bytes, Bytes)], coll: &[u8], name: &[u8]) -> Option<
     None
 }
 
+/// Where the pages of an extent stand: on units of the object's own, with a checksum for each, or on slots of a shared blob.
+#[derive(Clone, Copy)]
+pub enum Run<'a> {
+    Units { first: u64, sums: &'a [u8] },
+    Slots { blob: u64, first: u64 },
+}
+
 /// An extent of a shard. One that can't be read has no pages.
 #[derive(Clone, Copy)]
 pub struct Extent<'a> {
     page: u64,
-    /// How many pages it has, and so how many units.
+    /// How many pages it has, and so how many units or slots.
     pub count: u64,
-    /// The first of its units.
-    pub unit: u64,
-    /// The checksum of each page.
-    sums: &'a [u8],
+    pub run: Run<'a>,
+}
+
+impl Extent<'_> {
+    /// Whether one of its pages stands on the slot.
+    pub fn stands_on(&self, of: u64, index: u64) -> bool {
+        match self.run {
+            Run::Units { .. } => false,
+            Run::Slots { blob, first } => {
+                blob == of && first <= index && index < first.saturating_add(self.count)
+            }
+        }
+    }
+}
+
+/// The rest of an extent on units, behind its kind.
+fn read_units<'a>(fields: &mut Reader<'a>, page: u64, count: u64) -> Extent<'a> {
+    let first = fields.number(4);
+    let sums = fields.bytes(count.saturating_mul(4) as usize);
+    Extent {
+        page,
+        count: sums.len() as u64 / 4,
+        run: Run::Units { first, sums },
+    }
+}
+
+/// The rest of one on slots.
+fn read_slots<'a>(fields: &mut Reader<'a>, page: u64, count: u64) -> Extent<'a> {
+    let blob = fields.number(8);
+    let first = fields.number(2);
+    Extent {
+        page,
+        count: count.min(256),
+        run: Run::Slots { blob, first },
+    }
 }
 
 /// The next extent.
 pub fn read_extent<'a>(fields: &mut Reader<'a>) -> Extent<'a> {
     let page = fields.number(4);
     let count = fields.number(2);
-    let zero = fields.number(1);
-    let unit = fields.number(4);
-    let sums = fields.bytes(count.saturating_mul(4) as usize);
-    if count == 0 || 256 < count || zero != 0 {
+    let kind = fields.number(1);
+    let extent = if kind == 1 {
+        read_slots(fields, page, count)
+    } else {
+        read_units(fields, page, count)
+    };
+    if count == 0 || 256 < count || 1 < kind {
         fields.fail();
     }
-    Extent {
-        page,
-        count: sums.len() as u64 / 4,
-        unit,
-        sums,
-    }
+    extent
 }
 
 impl Object {
@@ -118,21 +155,48 @@ impl Object {
         }
     }
 
+    /// Lays the page on a slot over the bytes.
+    fn lay_slot(
+        &mut self,
+        image: &[u8],
+        rows: &[(Bytes, Bytes)],
+        page: u64,
+        blob: u64,
+        index: u64,
+    ) {
+        match slot_of(rows, blob, index) {
+            Some(slot) => self.lay_unit(image, page, slot.unit, slot.sum),
+            None => self.is_whole = false,
+        }
+    }
+
+    /// Lays the page of this number of an extent over the bytes.
+    fn lay_page(&mut self, image: &[u8], rows: &[(Bytes, Bytes)], extent: &Extent<'_>, i: u64) {
+        let page = extent.page.saturating_add(i);
+        match extent.run {
+            Run::Units { first, sums } => {
+                let sum = number_at(sums, i.saturating_mul(4) as usize, 4);
+                self.lay_unit(image, page, first.saturating_add(i), sum);
+            }
+            Run::Slots { blob, first } => {
+                self.lay_slot(image, rows, page, blob, first.saturating_add(i));
+            }
+        }
+    }
+
     /// Lays the pages of an extent over the bytes.
-    fn lay_extent(&mut self, image: &[u8], extent: &Extent<'_>) {
+    fn lay_extent(&mut self, image: &[u8], rows: &[(Bytes, Bytes)], extent: &Extent<'_>) {
         for i in 0..extent.count {
-            let sum = number_at(extent.sums, i.saturating_mul(4) as usize, 4);
-            let page = extent.page.saturating_add(i);
-            self.lay_unit(image, page, extent.unit.saturating_add(i), sum);
+            self.lay_page(image, rows, extent, i);
         }
     }
 
     /// Lays the pages of a shard over the bytes.
-    fn lay_shard(&mut self, image: &[u8], shard: &[u8]) {
+    fn lay_shard(&mut self, image: &[u8], rows: &[(Bytes, Bytes)], shard: &[u8]) {
         let mut fields = Reader::new(shard);
         for _ in 0..shard.len() {
             if !fields.is_empty() {
-                self.lay_extent(image, &read_extent(&mut fields));
+                self.lay_extent(image, rows, &read_extent(&mut fields));
             }
         }
         self.is_whole = self.is_whole && fields.is_done();
@@ -143,7 +207,7 @@ impl Object {
     fn lay_shards(&mut self, image: &[u8], rows: &[(Bytes, Bytes)], coll: &[u8], name: &[u8]) {
         for row in rows {
             if is_shard(row.0.as_slice(), coll, name) {
-                self.lay_shard(image, row.1.as_slice());
+                self.lay_shard(image, rows, row.1.as_slice());
             }
         }
     }

@@ -132,6 +132,11 @@ sorted_ascend (p ∷ ps) sorted =
 pub extents_ascend : (pages : PageMap) → ExtentsAscend (extents_of (entries pages))
 extents_ascend pages = sorted_ascend (entries pages) (entries_sorted pages)
 
+-- those behind others ascend as all do
+pub ascend_behind : (xs ys : List Extent) → ExtentsAscend (xs ++ ys) → ExtentsAscend ys
+ascend_behind [] ys ascend = ascend
+ascend_behind (x ∷ xs) ys ascend = ascend_behind xs ys ascend.1
+
 -- ---- they are as long as they get
 
 -- two bodies begin on the same unit or slot

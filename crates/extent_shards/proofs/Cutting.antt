@@ -1,6 +1,6 @@
 -- How many of a map's pages are in its first shard.
-use Rattle.std.proofs.Common.{◌≡◌, ◌⊎◌, inl, inr, ℕ, zero, suc, ◌+◌, ◌<◌, ◌≤◌, Bool, true, false, cond, List, [], ◌∷◌, ◌++◌, length, get_or, take, drop, Option, None, refl, sym, ap, subst, ◌∙◌, append_assoc, append-nil, arith}
-use Rattle.std.specs.Prelude.{nat_le}
+use Rattle.std.proofs.Common.{◌≡◌, ◌⊎◌, inl, inr, ℕ, zero, suc, ◌+◌, ◌-◌, ◌<◌, ◌≤◌, ◌^◌, Bool, true, false, cond, List, [], ◌∷◌, ◌++◌, length, get_or, take, drop, Option, Some, None, refl, sym, ap, subst, ◌∙◌, append_assoc, append-nil, arith}
+use Rattle.std.specs.Prelude.{nat_le, ◌==◌}
 use Rattle.std.specs.List.{flat_map}
 use Rattle.std.specs.Int.{w16, w32, to_le_bytes}
 use Rattle.std.proofs.lemmas.Bool.Decides.{nat_tests}
@@ -14,7 +14,7 @@ use Rattle.onode_codec.specs.declared.extent.Start.{Start}
 use Rattle.onode_codec.specs.declared.extent.Start.TheVariants.{Unit as OnUnit, Slot as OnSlot}
 use Rattle.onode_codec.proofs.ExtentReading.{length-csums}
 use Rattle.blob_map.specs.Prelude.{extents_of}
-use Rattle.extent_shards.specs.Prelude.{shard_bytes, is_within, shards_from, shards_of, first_of, body_with, extent_with, run_size, csums_of, IsFirstRun, WritesFront, WritesShard}
+use Rattle.extent_shards.specs.Prelude.{shard_bytes, is_within, shards_from, shards_of, first_of, body_with, extent_with, run_size, csums_of, IsFirstRun, room_behind, LacksRoom, WritesRun, WritesFront, WritesShard}
 use Rattle.extent_shards.specs.declared.pushing.Front.{Front}
 use Rattle.extent_shards.proofs.Runs.{count_csums, count_with}
 use Rattle.extent_shards.proofs.Fronts.{count_of, count_append, count_all, front_of, begins_at_first}
@@ -195,6 +195,60 @@ module _ (w : Width) (bound : Option ℕ) (ps : List (ℕ × Place)) (count byte
   begun_is_last begun some le = elim begun [
     | inl z ↦ absurd (omega (arith, z.0, some, le))
     | inr front ↦ shard_is_last w bound ps count bytes old new front le
+  ]
+
+-- ---- by the room that there is
+
+some_size : (w : Width) (s : Start) (count : ℕ) → 0 < run_size w s count
+some_size w (OnUnit unit) count = omega arith
+some_size w (OnSlot sbid index) count = omega arith
+
+not_zero : (n : ℕ) → 0 < n → (n == 0) ≡ false
+not_zero n some = grind (arith, nat_tests)
+
+room_left : (bound count bytes : ℕ) → 0 < count → room_behind bound count bytes ≡ bound - bytes
+room_left bound count bytes some = ap (λ t. cond t (2 ^ 64 - 1) (bound - bytes)) (not_zero count some)
+
+room_for_first : (bound count bytes : ℕ) → count ≡ 0 → room_behind bound count bytes ≡ 2 ^ 64 - 1
+room_for_first bound count bytes none = ap (λ n. room_behind bound n bytes) none
+
+-- there isn't room for the next extent
+pub full_without_room : (w : Width) (bound : ℕ) (ps : List (ℕ × Place)) (count bytes room : ℕ) (old new new' : List ℕ)
+    → IsBegun w (Some bound) ps count bytes old new → room ≡ room_behind bound count bytes → LacksRoom w (drop count ps) room new new'
+    → WritesFront w (Some bound) ps count old new'
+full_without_room w bound ps count bytes room old new new' begun is lacks =
+    let size = run_size w lacks.head.start lacks.head.count in
+    let some : 0 < count = elim begun [
+      | inl z ↦ absurd (omega (arith, is ∙ room_for_first bound count bytes z.0, lacks.more, lacks.few))
+      | inr front ↦ front.some
+    ] in
+    subst (WritesFront w (Some bound) ps count old) (sym lacks.same)
+    (begun_is_full w (Some bound) ps count bytes old new lacks.head begun lacks.run (bytes + size) refl some
+    (past_bound bound bound (bytes + size) refl (omega (arith, is ∙ room_left bound count bytes some, lacks.more))))
+
+-- it is written, for there is
+module _ (w : Width) (bound : ℕ) (ps : List (ℕ × Place)) (count bytes room pages more bytes' : ℕ) (old new new' : List ℕ)
+    (begun : IsBegun w (Some bound) ps count bytes old new) (is : room ≡ room_behind bound count bytes)
+    (writes : WritesRun w (drop count ps) room pages more new new') (bytes_is : bytes' ≡ bytes + more) where
+  fits : 0 < count → bytes' ≤ bound
+  fits some = omega (
+    arith,
+    is ∙ room_left bound count bytes some,
+    writes.within,
+    bytes_is,
+    writes.bytes_are,
+    some_size w writes.head.start writes.head.count,
+  )
+
+  pub more_with_room : (count' : ℕ) → count' ≡ count + pages → IsFront w (Some bound) ps count' bytes' old new'
+  more_with_room count' count_is =
+      one_more_run w (Some bound) ps count bytes old new writes.head begun writes.run bytes' (bytes_is ∙ ap (λ n. bytes + n) writes.bytes_are)
+      (λ some. within_bound bound bound bytes' refl (fits some)) count' new' (count_is ∙ ap (λ n. count + n) writes.pages_are) writes.written
+
+  pub small_with_room : bound < 2 ^ 32 → bytes' < 2 ^ 33
+  small_with_room below = elim begun [
+    | inl z ↦ omega (arith, z.1, bytes_is, writes.few)
+    | inr front ↦ omega (arith, fits front.some, below)
   ]
 
 -- ---- where the shard begins

@@ -8,7 +8,7 @@ use Rattle.std.proofs.lemmas.Bool.Decides.{nat_tests}
 use Rattle.unit_fields.specs.declared.width.Width.{Width}
 use Rattle.row_format.specs.Prelude.{Extent, BeginsAt, ExtentsAscend, page_count, page_end, Place, own, slot}
 use Rattle.blob_map.specs.Prelude.{PageMap, alone, single, follows, more, extents_from, extents_of}
-use Rattle.blob_map.proofs.Forms.{extents_ascend}
+use Rattle.blob_map.proofs.Forms.{extents_ascend, ascend_behind}
 use Rattle.blob_map.proofs.Back.{longer_by_one}
 use Rattle.extent_shards.specs.Prelude.{shard_bytes, is_within, shards_from, shards_of, first_of, shard_at, joined_extents}
 use Rattle.extent_shards.proofs.Joins.{shards_back}
@@ -30,10 +30,6 @@ all_behind P (x ∷ xs) ys all = all_behind P xs ys all.1
 pub ascend_front : (xs ys : List Extent) → ExtentsAscend (xs ++ ys) → ExtentsAscend xs
 ascend_front [] ys is = tt
 ascend_front (x ∷ xs) ys is = (all_front (λ later. page_end x ≤ later.first) xs ys is.0, ascend_front xs ys is.1)
-
-pub ascend_behind : (xs ys : List Extent) → ExtentsAscend (xs ++ ys) → ExtentsAscend ys
-ascend_behind [] ys is = is
-ascend_behind (x ∷ xs) ys is = ascend_behind xs ys is.1
 
 -- ---- each has an extent
 

@@ -1,18 +1,13 @@
 -- The first of the extents of pages, and the pages that it has.
-use Rattle.std.proofs.Common.{◌≡◌, ℕ, zero, suc, ◌+◌, ◌-◌, ◌<◌, ◌≤◌, true, false, cond, List, [], ◌∷◌, ◌++◌, length, get_or, take, drop, refl, sym, ap, subst, ◌∙◌, append_assoc, append-nil, arith}
+use Rattle.std.proofs.Common.{◌≡◌, ℕ, ◌+◌, ◌<◌, ◌≤◌, true, false, cond, List, [], ◌∷◌, ◌++◌, length, get_or, take, drop, refl, sym, ap, subst, ◌∙◌, arith}
 use Rattle.std.specs.Prelude.{nat_lt, ◌==◌, ◌&&◌}
-use Rattle.std.specs.List.{flat_map}
 use Rattle.std.proofs.lemmas.List.{drop_more, drop_all, take_more, length-take, length-map, map-append, get_or-drop}
-use Rattle.std.proofs.lemmas.List.Concat.{flat_map-cons}
-use Rattle.unit_fields.specs.declared.width.Width.{Width}
-use Rattle.row_format.specs.Prelude.{Body, private, Place, page_count, csum_bytes, extent_bytes}
+use Rattle.row_format.specs.Prelude.{Body, Place, page_count}
 use Rattle.onode_codec.specs.declared.extent.Head.{Head}
 use Rattle.onode_codec.specs.declared.extent.Start.{Start}
 use Rattle.onode_codec.specs.declared.extent.Start.TheVariants.{Unit as OnUnit, Slot as OnSlot}
-use Rattle.onode_codec.specs.Reading.{extent_head}
-use Rattle.onode_codec.proofs.ExtentReading.{head_then_csums}
 use Rattle.blob_map.specs.Prelude.{csum_of, alone, single, is_next, longer, more, follows, extents_from, extents_of}
-use Rattle.extent_shards.specs.Prelude.{body_with, extent_with, kept_bytes, csums_of, IsFirstRun}
+use Rattle.extent_shards.specs.Prelude.{body_with, extent_with, csums_of, IsFirstRun}
 use Rattle.blob_map.proofs.Back.{follows_means}
 
 -- the first pages, as many as the head says, are in its extent, and the others are to come
@@ -48,14 +43,6 @@ pub follows_with : (h : Head) (csums : List ℕ) (page : ℕ) (place : Place) �
     → (nat_lt h.count 256 && (page == h.first + h.count && is_next (body_with h.start h.count csums) place)) ≡ follows (extent_with h csums) (page, place)
 follows_with h csums page place size =
     ap (λ n. nat_lt n 256 && (page == h.first + n && is_next (body_with h.start h.count csums) place)) (sym (count_with h.start h.count csums size))
-
--- a head and what stands behind it are its extent
-head_then_kept : (w : Width) (first count : ℕ) (s : Start) (csums : List ℕ) → length csums ≡ count
-    → extent_head (record { first = first; count = count; start = s }) ++ kept_bytes w s csums
-    ≡ extent_bytes w (record { first = first; body = body_with s count csums })
-head_then_kept w first count (OnUnit unit) csums size = head_then_csums w first count unit csums size
-head_then_kept w first count (OnSlot sbid index) csums size =
-    append-nil (extent_head (record { first = first; count = count; start = OnSlot sbid index }))
 
 pub count_csums : (n : ℕ) (ps : List (ℕ × Place)) → n ≤ length ps → length (csums_of (take n ps)) ≡ n
 count_csums n ps le = length-map (take n ps) (λ p. csum_of p.1) ∙ omega (arith, length-take n ps, le)
@@ -108,41 +95,6 @@ ends_with_all ps h g le =
       run = g.grown ∙ ap (extents_from (extent_with h (csums_of (take h.count ps)))) none
           ∙ ap (λ l. extent_with h (csums_of (take h.count ps)) ∷ extents_of l) (sym none);
     }
-
--- an extent of pages on units is written
-pub private_written : (w : Width) (first unit : ℕ) (ps rest : List (ℕ × Place)) (csum count : ℕ) (d : ℕ × Place) (old mid new : List ℕ) → 0 < length ps
-    → rest ≡ drop 1 ps → count ≡ length ps → csum ≡ csum_of (get_or ps 0 d).1
-    → mid ≡ old ++ (extent_head (record { first = first; count = count; start = OnUnit unit }) ++ csum_bytes w csum)
-    → new ≡ mid ++ flat_map (csum_bytes w) (csums_of rest)
-    → new ≡ old ++ extent_bytes w (record { first = first; body = private unit (csums_of ps) })
-private_written w first unit [] rest csum count d old mid new some behind size is head others = absurd (omega (arith, some))
-private_written w first unit (p ∷ ps) rest csum count d old mid new some behind size is head others =
-    let front : List ℕ = extent_head (record { first = first; count = count; start = OnUnit unit }) in
-    let numbers : List ℕ = flat_map (csum_bytes w) (csums_of ps) in
-    let all : csum ∷ csums_of ps ≡ csums_of (p ∷ ps) = ap (λ (k : ℕ). k ∷ csums_of ps) is in
-    let sums : length (csums_of (p ∷ ps)) ≡ count = length-map (p ∷ ps) (λ (q : ℕ × Place). csum_of q.1) ∙ sym size in
-    others ∙ ap (λ (l : List (ℕ × Place)). mid ++ flat_map (csum_bytes w) (csums_of l)) behind
-    ∙ ap (λ (l : List ℕ). l ++ numbers) head ∙ append_assoc old (front ++ csum_bytes w csum) numbers
-    ∙ ap (λ (l : List ℕ). old ++ l) (append_assoc front (csum_bytes w csum) numbers
-    ∙ ap (λ (l : List ℕ). front ++ l) (sym (flat_map-cons (csum_bytes w) csum (csums_of ps)) ∙ ap (flat_map (csum_bytes w)) all)
-    ∙ head_then_kept w first count (OnUnit unit) (csums_of (p ∷ ps)) sums)
-
--- the first of the pages' extents is one on units
-pub run_on_units : (w : Width) (ps run : List (ℕ × Place)) (h : Head) (unit : ℕ) (old new : List ℕ) → h.start ≡ OnUnit unit → run ≡ take h.count ps
-    → new ≡ old ++ extent_bytes w (record { first = h.first; body = private unit (csums_of run) })
-    → new ≡ old ++ extent_bytes w (extent_with h (csums_of (take h.count ps)))
-run_on_units w ps run h unit old new on are is =
-    is ∙ ap (λ (l : List (ℕ × Place)). old ++ extent_bytes w (record { first = h.first; body = private unit (csums_of l) })) are
-    ∙ ap (λ (start : Start). old ++ extent_bytes w (record { first = h.first; body = body_with start h.count (csums_of (take h.count ps)) })) (sym on)
-
--- it is one on slots
-pub run_on_slots : (w : Width) (ps : List (ℕ × Place)) (h : Head) (sbid index : ℕ) (old new : List ℕ) → IsFirstRun ps h → h.start ≡ OnSlot sbid index
-    → new ≡ old ++ extent_head h → new ≡ old ++ extent_bytes w (extent_with h (csums_of (take h.count ps)))
-run_on_slots w ps h sbid index old new run on is =
-    let csums = csums_of (take h.count ps) in
-    is ∙ ap (λ (l : List ℕ). old ++ l) (sym (append-nil (extent_head h))
-    ∙ ap (λ (start : Start). extent_head h ++ kept_bytes w start csums) (sym on)
-    ∙ head_then_kept w h.first h.count h.start csums (count_csums h.count ps run.within))
 
 -- the page behind those of the extent, by its place among the pages behind the first
 pub next_of : (ps rest : List (ℕ × Place)) (h : Head) (i : ℕ) (q : ℕ × Place) → rest ≡ drop 1 ps → h.count ≡ i + 1 → q ≡ get_or rest i q

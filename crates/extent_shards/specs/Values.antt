@@ -1,10 +1,11 @@
 -- Pages as they stand in the value of a shard's row: put into a map as they are read, and written from a map's entries.
 use Rattle.std.specs.Prelude.{◌≡◌, ℕ, ◌+◌, ◌<◌, ◌≤◌, List, [], ◌∷◌, ◌++◌, length, map, take, drop}
-use Rattle.std.specs.List.{flat_map, AllByRecursion}
+use Rattle.std.specs.List.{AllByRecursion}
 use Rattle.unit_fields.specs.declared.width.Width.{Width}
 use Rattle.unit_fields.specs.Prelude.{bytes_of}
-use Rattle.row_format.specs.Prelude.{Extent, Body, private, shared, Place, csum_bytes, extent_bytes, FitsExtent}
+use Rattle.row_format.specs.Prelude.{Extent, Body, private, shared, Place, extent_bytes, FitsExtent}
 use Rattle.onode_codec.specs.declared.extent.Head.{Head}
+use Rattle.onode_codec.specs.declared.extent.LonePage.{LonePage}
 use Rattle.onode_codec.specs.declared.extent.Start.{Start}
 use Rattle.onode_codec.specs.declared.extent.Start.TheVariants.{Unit as OnUnit, Slot as OnSlot}
 use Rattle.onode_codec.specs.Reading.{ReadsCsums, ReadsExtent, SpellExtents}
@@ -34,11 +35,6 @@ body_with (OnSlot sbid index) count csums = shared sbid index count
 abbrev pub extent_with : Head → List ℕ → Extent
 extent_with h csums = record { first = h.first; body = body_with h.start h.count csums }
 
--- what stands behind the head
-abbrev pub kept_bytes : Width → Start → List ℕ → List ℕ
-kept_bytes w (OnUnit unit) csums = flat_map (csum_bytes w) csums
-kept_bytes w (OnSlot sbid index) csums = []
-
 -- how many bytes the extent of a head has
 abbrev pub run_size : Width → Start → ℕ → ℕ
 run_size w (OnUnit unit) count = 11 + bytes_of w count
@@ -66,3 +62,8 @@ pub record IsFirstRun (ps : List (ℕ × Place)) (h : Head) : Type 0 where
   pub most : h.count ≤ 256
   pub within : h.count ≤ length ps
   pub run : extents_of ps ≡ extent_with h (csums_of (take h.count ps)) ∷ extents_of (drop h.count ps)
+
+-- the lone page is the first of the pages' extents
+pub record IsLonePage (ps : List (ℕ × Place)) (l : LonePage) : Type 0 where
+  pub run : IsFirstRun ps (record { first = l.first; count = 1; start = OnUnit l.unit })
+  pub csums : csums_of (take 1 ps) ≡ l.csum ∷ []

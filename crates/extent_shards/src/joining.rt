@@ -5,14 +5,12 @@ ghost use Rattle.row_format.specs.Prelude.{Extent, BeginsAt};
 ghost use Rattle.onode_codec.specs.Reading.{SpellExtents};
 ghost use Rattle.extent_shards.specs.Reading.{IsShardValue, AddsShard};
 
+use crate::pushing::lone_bytes;
 use crate::reading::put_value;
 use blob_map::PageMap;
 use onode_codec::Head;
 use std::alloc::{AllocError, Global};
 use unit_fields::{Fields, Width};
-
-// The most bytes that a page takes in a shard's value: those of an extent of one page.
-const PAGE_BYTES: usize = 15;
 
 // The first page of the extents that the value of a shard's row spells, however wide their checksums are.
 fn first_page(value: &[u8]) -> u32
@@ -46,6 +44,14 @@ impl JoinedShards {
         }
     }
 
+    /// Makes room for so many pages more. The shards are as they were, also where memory runs out.
+    pub fn reserve(&mut self, more: usize) -> Result<(), AllocError>
+        ensures firsts { self.new.firsts.items ≡ self.old.firsts.items }
+        ensures pages { self.new.pages ≡ self.old.pages }
+    {
+        self.pages.reserve(more)
+    }
+
     /// Adds the shard whose row has this value, with checksums of this width. There is room for its pages before they are put, if each has
     /// an extent of its own. Where memory runs out, some of its pages are put.
     pub fn add(&mut self, width: Width, value: &[u8]) -> Result<(), AllocError>
@@ -53,7 +59,7 @@ impl JoinedShards {
         ensures { OnOk result (AddsShard width value.now self.old.firsts.items self.old.pages self.new.firsts.items self.new.pages) }
     {
         self.firsts.push(first_page(value))?;
-        self.pages.reserve(value.len() / PAGE_BYTES)?;
+        self.pages.reserve(value.len() / lone_bytes(width))?;
         put_value(&mut self.pages, width, value)
     }
 }

@@ -3,12 +3,12 @@ ghost use Rattle.std.specs.Prelude.{◌≡◌, ◌+◌, ◌≤◌, ◌^◌, List
 ghost use Rattle.std.specs.List.{flat_map};
 ghost use Rattle.unit_fields.specs.Prelude.{bytes_of};
 ghost use Rattle.row_format.specs.Prelude.{Extent, shared};
-ghost use Rattle.onode_codec.specs.Reading.{SpellExtents};
+ghost use Rattle.onode_codec.specs.Reading.{lone_extent, SpellExtents};
 ghost use Rattle.blob_map.specs.Prelude.{extent_pages, with_pages};
 ghost use Rattle.extent_shards.specs.Values.{SpellPages, BeginsWithPages, PutsFirst, PutsExtent};
 
 use blob_map::{At, PageMap, Place};
-use onode_codec::{Head, Start, read_csum};
+use onode_codec::{Head, LonePage, Start, read_csum};
 use std::alloc::AllocError;
 use unit_fields::{Fields, UnitNo, Width};
 
@@ -60,7 +60,19 @@ fn put_slots(
     Ok(())
 }
 
-fn put_extent(pages: &mut PageMap, width: Width, fields: &mut Fields) -> Result<(), AllocError>
+// Puts the page of an extent of one page on its unit.
+fn put_lone(pages: &mut PageMap, lone: &LonePage) -> Result<(), AllocError>
+    ensures { OnOk result (pages.new ≡ with_pages pages.old (extent_pages (lone_extent lone.now))) }
+{
+    let at = At::Unit {
+        unit: lone.unit,
+        csum: lone.csum,
+    };
+    pages.set(lone.first, Place { at })
+}
+
+// Puts the pages of the extent at the front, whatever it is.
+fn put_run(pages: &mut PageMap, width: Width, fields: &mut Fields) -> Result<(), AllocError>
     requires { BeginsWithPages width fields.old }
     ensures { OnOk result (PutsExtent width fields.old fields.new pages.old pages.new) }
 {
@@ -78,8 +90,21 @@ fn put_extent(pages: &mut PageMap, width: Width, fields: &mut Fields) -> Result<
     }
 }
 
+// Puts the pages of the extent at the front. Most extents have one page where units are scattered, and such a one is read in one piece.
+#[inline(always)]
+fn put_extent(pages: &mut PageMap, width: Width, fields: &mut Fields) -> Result<(), AllocError>
+    requires { BeginsWithPages width fields.old }
+    ensures { OnOk result (PutsExtent width fields.old fields.new pages.old pages.new) }
+{
+    match LonePage::read(width, fields) {
+        Some(lone) => put_lone(pages, &lone),
+        None => put_run(pages, width, fields),
+    }
+}
+
 /// Puts the pages of the extents that these bytes spell, with checksums of this width, in their places, one extent behind the other. Where
 /// memory runs out, some of them are put.
+#[inline(never)]
 pub fn put_value(pages: &mut PageMap, width: Width, bytes: &[u8]) -> Result<(), AllocError>
     requires { SpellPages width bytes.now }
     ensures { OnOk result ((es : List Extent) → SpellExtents width bytes.now es → pages.new ≡ with_pages pages.old (flat_map extent_pages es)) }

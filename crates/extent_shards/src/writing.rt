@@ -1,23 +1,15 @@
 //! The value of a shard's row, written from the pages of a map.
-ghost use Rattle.std.specs.Prelude.{◌≡◌, [], ◌∷◌, ◌++◌, ◌<◌, ◌≤◌, List, ℕ, length, take, drop, OnOk};
+ghost use Rattle.std.specs.Prelude.{◌≡◌, [], ◌∷◌, ◌++◌, ◌<◌, ◌≤◌, List, ℕ, length, take, drop, OnOk, IfSome};
 ghost use Rattle.std.specs.List.{flat_map};
-ghost use Rattle.row_format.specs.Prelude.{private, shared, csum_bytes, extent_bytes};
-ghost use Rattle.onode_codec.specs.declared.extent.Start.TheVariants.{Unit as on_unit};
-ghost use Rattle.onode_codec.specs.Reading.{extent_head};
+ghost use Rattle.row_format.specs.Prelude.{private, shared, own, csum_bytes, extent_bytes};
 ghost use Rattle.blob_map.specs.Prelude.{csum_of, alone, is_next, follows};
-ghost use Rattle.extent_shards.specs.Values.{body_with, extent_with, csums_of, IsFirstRun};
+ghost use Rattle.extent_shards.specs.Values.{body_with, extent_with, csums_of, IsFirstRun, IsLonePage};
 
 use blob_map::{At, Place};
-use onode_codec::{Head, Start, push_csum};
+use onode_codec::{Head, LonePage, Start, push_csum};
 use std::alloc::AllocError;
 use unit_fields::limits::EXTENT_PAGES;
 use unit_fields::{UnitNo, Width};
-
-// The kind of an extent on units of the object's own.
-const PRIVATE: u8 = 0;
-
-/// The bytes of an extent on units in front of its checksums.
-pub const HEAD_BYTES: usize = 11;
 
 // Where an extent of one page begins.
 fn start_of(place: &Place) -> Start
@@ -81,6 +73,48 @@ pub fn pages_behind(pages: &[(u32, Place)], count: usize) -> &[(u32, Place)]
     &pages[count..]
 }
 
+// The checksum that an extent keeps of a page: none where it stands on a slot.
+fn csum_of(place: &Place) -> u32
+    ensures { result ≡ csum_of place.now }
+{
+    match place.at {
+        At::Unit { csum, .. } => csum,
+        At::Slot { .. } => 0,
+    }
+}
+
+// The unit of the object's own on which the page is, if it is on one.
+fn unit_of(place: &Place) -> Option<UnitNo>
+    ensures { IfSome result (λ unit. place.now ≡ own unit (csum_of place.now)) }
+{
+    match place.at {
+        At::Unit { unit, .. } => Some(unit),
+        At::Slot { .. } => None,
+    }
+}
+
+/// The first of the pages' extents, where that has one page, on a unit of the object's own. Where units are scattered most have.
+pub fn lone_page(pages: &[(u32, Place)]) -> Option<LonePage>
+    requires { 0 < length pages.now }
+    ensures { IfSome result (IsLonePage pages.now) }
+{
+    let place = &pages[0].1;
+    let unit = unit_of(place)?;
+    let head = Head {
+        first: pages[0].0,
+        count: 1,
+        start: Start::Unit(unit),
+    };
+    if pages.len() > 1 && follows(&head, pages[1].0, &pages[1].1) {
+        return None;
+    }
+    Some(LonePage {
+        first: head.first,
+        unit,
+        csum: csum_of(place),
+    })
+}
+
 /// The head of the first of the pages' extents.
 pub fn first_run(pages: &[(u32, Place)]) -> Head
     requires { 0 < length pages.now }
@@ -101,16 +135,6 @@ pub fn first_run(pages: &[(u32, Place)]) -> Head
     head
 }
 
-// The checksum that an extent keeps of a page: none where it stands on a slot.
-fn csum_of(place: &Place) -> u32
-    ensures { result ≡ csum_of place.now }
-{
-    match place.at {
-        At::Unit { csum, .. } => csum,
-        At::Slot { .. } => 0,
-    }
-}
-
 fn push_csums(out: &mut Vec<u8>, width: Width, pages: &[(u32, Place)]) -> Result<(), AllocError>
     ensures { OnOk result (out.new.items ≡ out.old.items ++ flat_map (csum_bytes width) (csums_of pages.now)) }
 {
@@ -118,47 +142,6 @@ fn push_csums(out: &mut Vec<u8>, width: Width, pages: &[(u32, Place)]) -> Result
         push_csum(out, width, csum_of(place))?;
     }
     Ok(())
-}
-
-// Writes the head of an extent on units of the object's own and the checksum of its first page at once: most extents have one page where
-// units are scattered.
-fn push_first(
-    out: &mut Vec<u8>,
-    width: Width,
-    first: u32,
-    count: u16,
-    unit: UnitNo,
-    csum: u32,
-) -> Result<(), AllocError>
-    ensures { OnOk result (out.new.items
-        ≡ out.old.items ++ (extent_head (record { first = first; count = count; start = on_unit unit }) ++ csum_bytes width csum)) }
-{
-    let [a, b, c, d] = first.to_le_bytes();
-    let [low, high] = count.to_le_bytes();
-    let [p, q, r, s] = unit.number().to_le_bytes();
-    match width {
-        Width::FourBytes => {
-            let [w, x, y, z] = csum.to_le_bytes();
-            out.extend_from_slice(&[a, b, c, d, low, high, PRIVATE, p, q, r, s, w, x, y, z])
-        }
-    }
-}
-
-// Writes an extent of these pages on units of the object's own.
-fn push_private(
-    out: &mut Vec<u8>,
-    width: Width,
-    first: u32,
-    unit: UnitNo,
-    pages: &[(u32, Place)],
-) -> Result<(), AllocError>
-    requires some { 0 < length pages.now }
-    requires most { length pages.now ≤ 256 }
-    ensures { OnOk result (out.new.items ≡ out.old.items ++ extent_bytes width (record { first = first; body = private unit (csums_of pages.now) })) }
-{
-    let csum = csum_of(&pages[0].1);
-    push_first(out, width, first, pages.len() as u16, unit, csum)?;
-    push_csums(out, width, pages_behind(pages, 1))
 }
 
 /// Writes the first of the pages' extents, which has this head, with checksums of this width.
@@ -172,9 +155,9 @@ pub fn push_run(
     ensures { OnOk result (out.new.items ≡ out.old.items ++ extent_bytes width (extent_with head.now (csums_of (take head.now.count pages.now)))) }
 {
     match head.start {
-        Start::Unit(unit) => {
-            let run = &pages[..usize::from(head.count)];
-            push_private(out, width, head.first, unit, run)
+        Start::Unit(_) => {
+            head.push(out)?;
+            push_csums(out, width, &pages[..usize::from(head.count)])
         }
         Start::Slot { .. } => head.push(out),
     }

@@ -1,10 +1,11 @@
 -- Onodes, and extents, read from bytes.
-use Rattle.std.specs.Prelude.{◌≡◌, ◌≢◌, ℕ, ◌<◌, ◌≤◌, ◌^◌, List, ◌∷◌, ◌++◌, length}
+use Rattle.std.specs.Prelude.{◌≡◌, ◌≢◌, ℕ, ◌<◌, ◌≤◌, ◌^◌, List, [], ◌∷◌, ◌++◌, length}
 use Rattle.std.specs.List.{flat_map, AllByRecursion}
 use Rattle.std.specs.Int.{w16, w32, w64, to_le_bytes}
 use Rattle.unit_fields.specs.declared.width.Width.{Width}
-use Rattle.row_format.specs.Prelude.{Extent, extent_bytes, FitsExtent, csum_bytes, csum_in, FitsCsum}
+use Rattle.row_format.specs.Prelude.{Extent, private, extent_bytes, FitsExtent, csum_bytes, csum_in, FitsCsum}
 use Rattle.onode_codec.specs.declared.extent.Head.{Head}
+use Rattle.onode_codec.specs.declared.extent.LonePage.{LonePage}
 use Rattle.onode_codec.specs.declared.extent.Start.{Start}
 use Rattle.onode_codec.specs.declared.extent.Start.TheVariants.{Unit as OnUnit, Slot as OnSlot}
 
@@ -25,6 +26,10 @@ FitsStart (OnSlot sbid index) = (sbid < 2 ^ 64) × (index < 2 ^ 16)
 -- the bytes of an extent before its checksums, if it has some: the first page, the number of pages, and where the first stands
 abbrev pub extent_head : Head → List ℕ
 extent_head h = to_le_bytes w32 h.first ++ (to_le_bytes w16 h.count ++ start_bytes h.start)
+
+-- the extent that a lone page has
+abbrev pub lone_extent : LonePage → Extent
+lone_extent l = record { first = l.first; body = private l.unit (l.csum ∷ []) }
 
 -- no extent stands at the front
 abbrev pub BeginsWithNoExtent : Width → List ℕ → Type 0

@@ -5,7 +5,7 @@ ghost use Rattle.std.specs.Int.{w16, w32, from_le_bytes, to_le_bytes};
 ghost use Rattle.unit_fields.specs.Prelude.{bytes_of};
 ghost use Rattle.row_format.specs.Prelude.{csum_bytes, Extent, private, shared, page_count, extent_bytes, FitsExtent};
 ghost use Rattle.onode_codec.specs.Bodies.{body_of};
-ghost use Rattle.onode_codec.specs.Reading.{extent_head, BeginsWithNoExtent, HasNoStart, ReadsStart, ReadsFront, ReadsHead, ReadsCsums, ReadsExtent, SpellExtents};
+ghost use Rattle.onode_codec.specs.Reading.{extent_head, lone_extent, BeginsWithNoExtent, HasNoStart, ReadsStart, ReadsFront, ReadsHead, ReadsCsums, ReadsExtent, SpellExtents};
 
 use crate::csum::{push_csum, read_csum};
 use byte_maps::{Bytes, Items};
@@ -168,6 +168,53 @@ fn push_head(out: &mut Vec<u8>, first: u32, count: u16, start: &Start) -> Result
             let [p, q, r, s, t, u, v, w] = sbid.to_le_bytes();
             let [x, y] = index.to_le_bytes();
             out.extend_from_slice(&[a, b, c, d, low, high, SHARED, p, q, r, s, t, u, v, w, x, y])
+        }
+    }
+}
+
+/// An extent of one page on a unit of the object's own. Where units are scattered most extents are such, so they are read and written in one
+/// piece.
+#[derive(Clone, Copy)]
+pub struct LonePage {
+    /// The page.
+    pub first: u32,
+    /// The unit on which it stands.
+    pub unit: UnitNo,
+    /// Its checksum.
+    pub csum: u32,
+}
+
+impl LonePage {
+    /// The extent at the front, where it is such a one. None: it isn't, and none of it is read.
+    pub fn read(width: Width, fields: &mut Fields) -> Option<LonePage>
+        ensures { MatchOption result (fields.new ≡ fields.old) (λ it. ReadsExtent width fields.old fields.new (lone_extent it)) }
+    {
+        let (front, rest) = fields.rest().split_first_chunk::<11>()?;
+        let [a, b, c, d, low, high, kind, p, q, r, s] = *front;
+        if low != 1 || high != 0 || kind != PRIVATE {
+            return None;
+        }
+        let mut behind = Fields::new(rest);
+        let csum = read_csum(&mut behind, width)?;
+        *fields = behind;
+        Some(LonePage {
+            first: u32_from_le([a, b, c, d]),
+            unit: UnitNo::new(u32_from_le([p, q, r, s])),
+            csum,
+        })
+    }
+
+    /// Writes the extent behind what is there.
+    pub fn push(&self, out: &mut Vec<u8>, width: Width) -> Result<(), AllocError>
+        ensures { OnOk result (out.new.items ≡ out.old.items ++ extent_bytes width (lone_extent self.now)) }
+    {
+        let [a, b, c, d] = self.first.to_le_bytes();
+        let [p, q, r, s] = self.unit.number().to_le_bytes();
+        match width {
+            Width::FourBytes => {
+                let [w, x, y, z] = self.csum.to_le_bytes();
+                out.extend_from_slice(&[a, b, c, d, 1, 0, PRIVATE, p, q, r, s, w, x, y, z])
+            }
         }
     }
 }

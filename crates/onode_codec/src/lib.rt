@@ -12,7 +12,7 @@ mod laws;
 mod onode;
 
 pub use csum::{push_csum, read_csum};
-pub use extent::{Body, Extent, Head, Start, decode_extents, encode_extents};
+pub use extent::{Body, Extent, Head, LonePage, Start, decode_extents, encode_extents};
 pub use keys::{
     COLLS_END, RowKind, attr_key, bitmap_key, coll_key, colls_first, deferred_key, header_key,
     objects_end, objects_first, omap_key, onode_key, shard_key, shards_end, shared_key,

@@ -14,6 +14,7 @@ use meta_rows::RowTable;
 use onode_codec::{Onode, onode_key, shards_end};
 use page_lookup::ShardPages;
 use std::alloc::{AllocError, Global};
+use unit_fields::limits::UNIT_BYTES;
 use unit_fields::{CollName, Name, Width};
 
 /// An object as its rows have it. A missing one has no pages and no shards.
@@ -25,6 +26,16 @@ pub struct ObjectState {
     pub pages: PageMap,
     /// The first page of each of its shards, ascending.
     pub shards: Vec<u32>,
+}
+
+// How many pages an object may have room for before they are read. Those of one of 4 MiB are as many, and few objects are larger.
+const ROOM_PAGES: u64 = 1024;
+
+// The room for the pages of an object of so many bytes and for one more, so that its map needn't grow as its shards are read. An object may
+// have holes, so it isn't more than that of a common one.
+fn room_for(size: u64) -> usize {
+    let pages = size / UNIT_BYTES as u64 + 1;
+    pages.min(ROOM_PAGES) as usize
 }
 
 // The size that the value of an onode's row says.
@@ -113,7 +124,11 @@ pub fn object_state(
     let mut shards = JoinedShards::new(alloc);
     for (key, value) in rows.range(onode.as_slice(), None) {
         match key.as_slice().strip_prefix(onode.as_slice()) {
-            Some([]) => size = Some(size_in(value.as_slice())),
+            Some([]) => {
+                let bytes = size_in(value.as_slice());
+                shards.reserve(room_for(bytes))?;
+                size = Some(bytes);
+            }
             Some(_) => shards.add(width, value.as_slice())?,
             None => break,
         }

@@ -4,6 +4,7 @@ use Rattle.std.specs.Prelude.{nat_lt, nat_le, ◌&&◌}
 use Rattle.std.specs.List.{AllByRecursion}
 use Rattle.std.proofs.lemmas.Bool.{lt-ltb, le-ltb, lt-leb, le-leb, cases_lt, cond-true, cond-false, and_left, and_right, and_from}
 use Rattle.row_format.specs.Prelude.{Extent, Place, place_in, page_end, place_of, ExtentsAscend}
+use Rattle.blob_map.proofs.Forms.{ascend_behind}
 use Rattle.page_lookup.specs.Prelude.{place_found, EndBehind, LeavesOut, BeginsBy}
 
 -- what is looked for behind the first extent's first page
@@ -106,12 +107,8 @@ pub found_among : (page : ℕ) (old new : List Extent) → LeavesOut page old ne
 found_among page old new left = sym (ap (λ (es : List Extent). place_found es page) left.is ∙ behind_all page left.front new left.ends)
 
 -- those that are left ascend
-pub back_ascends : (front es : List Extent) → ExtentsAscend (front ++ es) → ExtentsAscend es
-back_ascends [] es ascend = ascend
-back_ascends (e ∷ front) es ascend = back_ascends front es ascend.1
-
 pub left_ascend : (page : ℕ) (old new : List Extent) → ExtentsAscend old → LeavesOut page old new → ExtentsAscend new
-left_ascend page old new ascend left = back_ascends left.front new (subst ExtentsAscend left.is ascend)
+left_ascend page old new ascend left = ascend_behind left.front new (subst ExtentsAscend left.is ascend)
 
 at_most : (x : Extent) (page : ℕ) (front : List Extent) (e : Extent) (es : List Extent)
     → AllByRecursion (λ later. page_end x ≤ later.first) (front ++ e ∷ es) → e.first ≤ page → page_end x ≤ page

@@ -15,10 +15,10 @@ use Rattle.row_format.specs.Prelude.{coll_key, onode_key, Extent, FitsExtent, Be
 use Rattle.row_format.proofs.Prelude.{same_row}
 use Rattle.store_image.specs.Prelude.{HasKey, HasOnode, HasShard, IsPageAt, pages_of, IsOnData, HasSlots, IsShardInPlace}
 use Rattle.blob_map.specs.Prelude.{PageMap, extents_of}
-use Rattle.blob_map.proofs.Forms.{extents_places, extents_ascend}
+use Rattle.blob_map.proofs.Forms.{extents_places, extents_ascend, ascend_behind}
 use Rattle.extent_shards.specs.Prelude.{shard_bytes, shards_of, shard_limit, first_of, shard_at, joined_extents}
 use Rattle.extent_shards.proofs.Joins.{shards_back}
-use Rattle.extent_shards.proofs.Openings.{all_behind, ascend_behind, HasExtent, all_full, IsOneOf, each_is, part_all, part_ascends, at_is_one, one_is_at, earlier_ends, of_map_rise}
+use Rattle.extent_shards.proofs.Openings.{all_behind, HasExtent, all_full, IsOneOf, each_is, part_all, part_ascends, at_is_one, one_is_at, earlier_ends, of_map_rise}
 use Rattle.plan_drafts.specs.Prelude.{AreCut}
 use Rattle.plan_proofs.proofs.Lengths.{has_page}
 use Rattle.object_rows.proofs.Shards.{found_left, found_right}

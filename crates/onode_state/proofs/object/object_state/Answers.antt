@@ -8,8 +8,8 @@ use Rattle.onode_state.proofs.OnodeRows.{IsSeen, onwards, next_on, its_onode, it
 use Rattle.onode_state.proofs.object.object_state.Goals as goal
 use Rattle.onode_state.proofs.object.object_state.Goals.{in-None, in-Some+in-None-strip_prefix}
 
-pub size_in-requires : goal.size_in-requires
-size_in-requires c =
+pub size_in-bytes-requires : goal.size_in-bytes-requires
+size_in-bytes-requires c =
     let rows = c.args.rows.now.rows in
     let coll = c.args.coll.now in
     let object = c.args.object.now in
@@ -39,15 +39,19 @@ loop-key-preserved-then-strip_prefix-lt1 c =
     let more = left_more (onwards c.args.width rows coll object c.onode_key.ensures.names.0 c.onode_key.ensures.names.1 c.requires) at x c.next.new.self (sym c.loop-key.invariant.left ∙ c.in-Some.ensures.steps) in
     let taken : take (at + 1) (onwards c.args.width rows coll object c.onode_key.ensures.names.0 c.onode_key.ensures.names.1 c.requires) ≡ take at (onwards c.args.width rows coll object c.onode_key.ensures.names.0 c.onode_key.ensures.names.1 c.requires) ++ x ∷ [] =
     take_more (onwards c.args.width rows coll object c.onode_key.ensures.names.0 c.onode_key.ensures.names.1 c.requires) at x more.0 ∙ ap (λ y. take at (onwards c.args.width rows coll object c.onode_key.ensures.names.0 c.onode_key.ensures.names.1 c.requires) ++ y ∷ []) (sym more.1) in
-    let size = size_is_read c.args.width rows coll object c.onode_key.ensures.names.0 c.onode_key.ensures.names.1 c.requires x c.as_slice-in-Some-empty.result.now c.size_in.result on.0 key c.as_slice-in-Some-empty.ensures c.size_in.ensures in
+    let size = size_is_read c.args.width rows coll object c.onode_key.ensures.names.0 c.onode_key.ensures.names.1 c.requires x c.as_slice-in-Some-empty.result.now c.size_in-bytes.result on.0 key c.as_slice-in-Some-empty.ensures c.size_in-bytes.ensures in
     record {
       can_next = tt;
       finite = tt;
       at = at + 1;
       left = more.2;
-      seen = subst (λ es. IsSeen c.args.width rows coll object es (Some c.size_in.result) c.loop-key.shards.firsts.items c.loop-key.shards.pages) (sym taken)
+      seen = subst (λ es. IsSeen c.args.width rows coll object es (Some c.size_in-bytes.result) c.reserve.new.self.firsts.items c.reserve.new.self.pages) (sym taken)
+          (subst (λ ps. IsSeen c.args.width rows coll object (take at (onwards c.args.width rows coll object c.onode_key.ensures.names.0 c.onode_key.ensures.names.1 c.requires) ++ x ∷ [])
+          (Some c.size_in-bytes.result) c.reserve.new.self.firsts.items ps) (sym c.reserve.ensures.pages)
+          (subst (λ fs. IsSeen c.args.width rows coll object (take at (onwards c.args.width rows coll object c.onode_key.ensures.names.0 c.onode_key.ensures.names.1 c.requires) ++ x ∷ [])
+          (Some c.size_in-bytes.result) fs c.loop-key.shards.pages) (sym c.reserve.ensures.firsts)
           (onode_seen c.args.width rows coll object c.onode_key.ensures.names.0 c.onode_key.ensures.names.1 c.requires (take at (onwards c.args.width rows coll object c.onode_key.ensures.names.0 c.onode_key.ensures.names.1 c.requires)) x
-          c.size_in.result c.loop-key.size c.loop-key.shards.firsts.items c.loop-key.shards.pages key size c.loop-key.invariant.seen);
+          c.size_in-bytes.result c.loop-key.size c.loop-key.shards.firsts.items c.loop-key.shards.pages key size c.loop-key.invariant.seen)));
     }
 
 pub add-requires : goal.add-requires

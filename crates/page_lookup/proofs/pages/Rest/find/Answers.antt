@@ -1,13 +1,14 @@
 use Rattle.std.proofs.Common.{◌≡◌, [], ◌++◌, sym, subst, ◌∙◌, rules}
 use Rattle.row_format.specs.Prelude.{ExtentsAscend}
 use Rattle.page_lookup.specs.Prelude.{extents_read, rows_read}
-use Rattle.page_lookup.proofs.Finding.{back_ascends, left_ascend}
+use Rattle.blob_map.proofs.Forms.{ascend_behind}
+use Rattle.page_lookup.proofs.Finding.{left_ascend}
 use Rattle.page_lookup.proofs.Rows.{no_row, next_row, nothing_left, found_left, number_left}
 use Rattle.page_lookup.proofs.pages.Rest.find.Goals as goal
 
 pub skip_rows-requires : goal.skip_rows-requires
 skip_rows-requires c =
-    back_ascends (extents_read c.self.inside.width c.self.inside.front.now) (rows_read c.self.inside.width c.self.inside.rows) c.self.invariant
+    ascend_behind (extents_read c.self.inside.width c.self.inside.front.now) (rows_read c.self.inside.width c.self.inside.rows) c.self.invariant
 
 pub shards-preserved : goal.shards-preserved
 shards-preserved c =

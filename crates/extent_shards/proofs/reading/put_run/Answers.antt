@@ -1,6 +1,6 @@
 use Rattle.std.proofs.lemmas.Result.{on_ok_weaker}
 use Rattle.extent_shards.proofs.Values.{fits_pages, fits_room, puts_units, puts_slots}
-use Rattle.extent_shards.proofs.reading.put_extent.Goals as goal
+use Rattle.extent_shards.proofs.reading.put_run.Goals as goal
 
 pub put_units-requires-clause-pages : goal.put_units-requires-clause-pages
 put_units-requires-clause-pages c = fits_pages c.args.width c.args.fields.now c.read.new.fields c.in-Some.head c.requires c.in-Some.ensures

@@ -21,7 +21,7 @@ use Rattle.bitmap_freelist.proofs.Reading.{has_insert}
 use Rattle.plan_proofs.proofs.Names.{same_is, itself}
 use Rattle.page_edits.proofs.Lists.{all_of}
 use Rattle.txn_planner.proofs.ObjectNames.{entry_found}
-use Rattle.txn_planner.specs.Laying.{with_first, AreOfRows, first_value}
+use Rattle.txn_planner.specs.Laying.{with_first_page, AreOfRows, first_value}
 
 abbrev Entry : Type 0
 Entry = List ℕ × List ℕ
@@ -118,12 +118,12 @@ module _ (rows : Rows) where
 -- ---- as look-ups say it
 
 -- a shard comes anew at a page: at the first one, or at one of the others
-pub anew_first : (first : Option ℕ) (behind : Units) (at page : ℕ) → first ≡ Some at → at ≡ page → true ≡ set.contains (with_first first behind) page
+pub anew_first : (first : Option ℕ) (behind : Units) (at page : ℕ) → first ≡ Some at → at ≡ page → true ≡ set.contains (with_first_page first behind) page
 anew_first first behind at page is same =
-    sym (ap (λ f. set.contains (with_first f behind) page) is ∙ (has_insert behind at page).1 (inl (sym same)))
+    sym (ap (λ f. set.contains (with_first_page f behind) page) is ∙ (has_insert behind at page).1 (inl (sym same)))
 
 pub anew_behind : (first : Option ℕ) (behind : Units) (at page : ℕ) (held : Bool) → first ≡ Some at → at ≢ page → held ≡ set.contains behind page
-    → held ≡ set.contains (with_first first behind) page
+    → held ≡ set.contains (with_first_page first behind) page
 anew_behind first behind at page held is other has =
     has ∙ elim (cases_Bool (set.contains behind page)) [
       | inl there ↦ there ∙ sym ((has_insert behind at page).1 (inr there))
@@ -134,11 +134,11 @@ anew_behind first behind at page held is other has =
           | inr there ↦ absurd (let no = sym there ∙ not in cc)
         ]
       ]
-    ] ∙ sym (ap (λ f. set.contains (with_first f behind) page) is)
+    ] ∙ sym (ap (λ f. set.contains (with_first_page f behind) page) is)
 
 pub anew_none : (first : Option ℕ) (behind : Units) (page : ℕ) (held : Bool) → first ≡ None → held ≡ set.contains behind page
-    → held ≡ set.contains (with_first first behind) page
-anew_none first behind page held none has = has ∙ sym (ap (λ f. set.contains (with_first f behind) page) none)
+    → held ≡ set.contains (with_first_page first behind) page
+anew_none first behind page held none has = has ∙ sym (ap (λ f. set.contains (with_first_page f behind) page) none)
 
 -- the first of rows is under this key
 pub first_same : (key : List ℕ) (es rest : List Entry) (x : Entry) → es ≡ x ∷ rest → is_same x.0 key ≡ true → Some x.1 ≡ first_value key es

@@ -19,7 +19,7 @@ use Rattle.extent_shards.specs.Prelude.{shards_of, shard_limit, first_of, joined
 use Rattle.extent_shards.proofs.Joins.{shards_back}
 use Rattle.extent_shards.proofs.Openings.{HasExtent, all_full}
 use Rattle.extent_shards.proofs.Fronts.{begins_at_first}
-use Rattle.txn_planner.specs.Laying.{openings, first_page, with_first, is_single, with_shard, with_shards, ArePut}
+use Rattle.txn_planner.specs.Laying.{openings, first_page, with_first_page, is_single, with_shard, with_shards, ArePut}
 
 -- the shards of pages
 abbrev pub cut : Width → List (ℕ × Place) → List (List Extent)
@@ -29,7 +29,7 @@ cut w ps = shards_of w (Some shard_limit) (extents_of ps)
 pub record HaveBegun (w : Width) (ps left : List (ℕ × Place)) (behind : Units) : Type 0 where
   pub fewer : length left < length ps
   pub single : 0 < length left → is_single (cut w ps) ≡ false
-  pub begin : openings (cut w left) (with_first (first_page ps) behind) ≡ openings (cut w ps) set.empty
+  pub begin : openings (cut w left) (with_first_page (first_page ps) behind) ≡ openings (cut w ps) set.empty
 
 -- those of the pages that are left are still to come, and then all have come
 pub record AreLeft (w : Width) (rows : Rows) (c o : List ℕ) (ps left : List (ℕ × Place)) (behind : Units) (old now : ChangeMap) : Type 0 where
@@ -46,9 +46,9 @@ pub all_put : (w : Width) (rows : Rows) (c o : List ℕ) (ps left : List (ℕ ×
     → AreLeft w rows c o ps left behind old now → left ≡ [] → ArePut w rows c o ps behind old now
 all_put w rows c o ps left behind old now are none = record {
   begin = elim are.begun [
-    | inl first ↦ ap (λ l. with_first (first_page l) behind) (sym first.0 ∙ none) ∙ first.1
+    | inl first ↦ ap (λ l. with_first_page (first_page l) behind) (sym first.0 ∙ none) ∙ first.1
         ∙ ap (λ l. openings (cut w l) set.empty) (sym none ∙ first.0)
-    | inr later ↦ ap (λ l. openings (cut w l) (with_first (first_page ps) behind)) (sym none) ∙ later.begin
+    | inr later ↦ ap (λ l. openings (cut w l) (with_first_page (first_page ps) behind)) (sym none) ∙ later.begin
   ];
   come = ap (λ l. with_shards w rows c o (is_single (cut w ps)) (cut w l) now) (sym none) ∙ are.come;
 }
@@ -102,7 +102,7 @@ swapped s a b = same_set nat_cmp_total nat_cmp-IsAntisymmetric (set.insert (set.
     or_swap false y z = refl
 
 -- the first page and others, with one more of these
-first_swapped : (first : Option ℕ) (s : Units) (x : ℕ) → with_first first (set.insert s x) ≡ set.insert (with_first first s) x
+first_swapped : (first : Option ℕ) (s : Units) (x : ℕ) → with_first_page first (set.insert s x) ≡ set.insert (with_first_page first s) x
 first_swapped None s x = refl
 first_swapped (Some f) s x = swapped s x f
 
@@ -160,7 +160,7 @@ module _ (w : Width) (rows : Rows) (c o : List ℕ) (ps left left' : List (ℕ �
         fewer = omega (arith, fewer, some, within, ap length first.0);
         single = λ more. several_where_first first.0 more;
         begin =
-            ap (λ p. openings (cut w left') (with_first p behind))
+            ap (λ p. openings (cut w left') (with_first_page p behind))
             (ap first_page (sym first.0) ∙ first_begins w left shard (cut w left') (omega (arith, some, within)) is)
             ∙ ap (λ s. openings (cut w left') (set.insert s (first_of shard))) first.1
             ∙ ap (λ l. openings l set.empty) (sym is ∙ ap (cut w) first.0);
@@ -179,9 +179,9 @@ module _ (w : Width) (rows : Rows) (c o : List ℕ) (ps left left' : List (ℕ �
         fewer = omega (arith, fewer, later.fewer);
         single = λ more. later.single (omega (arith, fewer, more));
         begin =
-            ap (λ s. openings (cut w left') (with_first (first_page ps) s)) (noted ∙ ap (set.insert behind) (sym begins))
+            ap (λ s. openings (cut w left') (with_first_page (first_page ps) s)) (noted ∙ ap (set.insert behind) (sym begins))
             ∙ ap (openings (cut w left')) (first_swapped (first_page ps) behind (first_of shard))
-            ∙ ap (λ l. openings l (with_first (first_page ps) behind)) (sym is) ∙ later.begin;
+            ∙ ap (λ l. openings l (with_first_page (first_page ps) behind)) (sym is) ∙ later.begin;
       });
     }
   ]

@@ -17,7 +17,7 @@ use Rattle.unit_fields.specs.Prelude.{IsName}
 use Rattle.plan_proofs.proofs.Names.{same_is, itself}
 use Rattle.page_edits.proofs.Lists.{In}
 use Rattle.txn_planner.specs.declared.touched.Touched.{Touched}
-use Rattle.txn_planner.specs.Laying.{AllNamed, first_of_names}
+use Rattle.txn_planner.specs.Laying.{AllNamed}
 
 -- ---- one that is taken out
 
@@ -117,17 +117,25 @@ names_left objects u names are = ap (map (λ e. e.0)) (entries_left objects u) �
         ∙ ap (map (λ (f : List ℕ × Touched). f.0)) (without_first e es sorted) ∙ rest
 
 -- those behind the first one
-pub names_behind : (objects : ByteMap Touched) (name : List ℕ) → first_of_names (finite.keys objects) ≡ Some name
+pub names_behind : (objects : ByteMap Touched) (name : List ℕ) → slice_get (finite.keys objects) 0 ≡ Some name
     → (names : List (List ℕ)) × (finite.keys objects ≡ name ∷ names)
 names_behind objects name is = by (finite.keys objects) refl is
   where
-    by : (l : List (List ℕ)) → finite.keys objects ≡ l → first_of_names l ≡ Some name
+    by : (l : List (List ℕ)) → finite.keys objects ≡ l → slice_get l 0 ≡ Some name
         → (names : List (List ℕ)) × (finite.keys objects ≡ name ∷ names)
     by [] are first = absurd cc
     by (o ∷ names) are first = (names, are ∙ ap (λ (u : List ℕ). u ∷ names) (same_name first))
       where
         same_name : Some o ≡ Some name → o ≡ name
         same_name e = ap (λ (z : Option (List ℕ)). unwrap_or z o) e
+
+-- there is none
+pub no_names : (objects : ByteMap Touched) → slice_get (finite.keys objects) 0 ≡ None → finite.keys objects ≡ []
+no_names objects none = by (finite.keys objects) none
+  where
+    by : (l : List (List ℕ)) → slice_get l 0 ≡ None → l ≡ []
+    by [] none = refl
+    by (o ∷ names) none = absurd cc
 
 count_names : (objects : ByteMap Touched) → finite.len objects ≡ length (finite.keys objects)
 count_names objects = finite.len-entries objects ∙ sym (length-map (entries objects) (λ (e : List ℕ × Touched). e.0))

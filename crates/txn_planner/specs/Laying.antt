@@ -60,9 +60,9 @@ first_page [] = None
 first_page (p ∷ ps) = Some p.0
 
 -- the first page, if there is one, with others
-abbrev pub with_first : Option ℕ → Units → Units
-with_first None pages = pages
-with_first (Some first) pages = set.insert pages first
+abbrev pub with_first_page : Option ℕ → Units → Units
+with_first_page None pages = pages
+with_first_page (Some first) pages = set.insert pages first
 
 -- the shard that begins at a page goes, but for one that comes anew
 abbrev pub without_shard : List ℕ → List ℕ → Units → ℕ → ChangeMap → ChangeMap
@@ -110,7 +110,7 @@ cut_of w pages = shards_of w (Some shard_limit) (extents_of (finite.entries page
 
 -- the shards of pages come, and begin at the first of them and at these
 pub record ArePut (w : Width) (rows : Rows) (c o : List ℕ) (ps : List (ℕ × Place)) (behind : Units) (changes changes' : ChangeMap) : Type 0 where
-  pub begin : with_first (first_page ps) behind ≡ openings (shards_of w (Some shard_limit) (extents_of ps)) set.empty
+  pub begin : with_first_page (first_page ps) behind ≡ openings (shards_of w (Some shard_limit) (extents_of ps)) set.empty
   pub come : changes'
       ≡ with_shards w rows c o (is_single (shards_of w (Some shard_limit) (extents_of ps))) (shards_of w (Some shard_limit) (extents_of ps)) changes
 
@@ -136,12 +136,7 @@ with_touched w rows c units held o t changes = if is_moved t.left t.now
     then with_map w rows c o t.shards.items (or_empty (laid_now units held t)).pages (with_onode c o t.before (size_at (laid_now units held t)) changes)
     else with_onode c o t.before (size_at (laid_now units held t)) changes
 
--- the first of these names
-abbrev pub first_of_names : List (List ℕ) → Option (List ℕ)
-first_of_names [] = None
-first_of_names (o ∷ names) = Some o
-
--- so do those with these names, each taken out of them
+-- so do those with these names, from the first on, each taken out of them
 abbrev pub with_objects : Width → Rows → List ℕ → List ℕ → Held → List (List ℕ) → ByteMap Touched → ChangeMap → ChangeMap
 with_objects w rows c units held [] objects changes = changes
 with_objects w rows c units held (o ∷ names) objects changes = with_objects w rows c units held names (finite.remove objects o)

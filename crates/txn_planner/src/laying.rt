@@ -3,7 +3,7 @@
 //! An onode is written where the object is longer or shorter than it was. Where one of its pages has come, gone or moved, its map is cut
 //! into shards anew, and of these the ones are written whose bytes aren't those of the row that is there. Each blob of which pages have left
 //! slots is written once, or its row goes.
-ghost use Rattle.std.specs.Prelude.{◌≡◌, ◌≤◌, ℕ, Option, length, IfOk, OnOk};
+ghost use Rattle.std.specs.Prelude.{◌≡◌, ◌≤◌, ℕ, Option, length, slice_get, IfOk, OnOk};
 ghost use Rattle.std.specs.Option.{option_map};
 ghost use Rattle.std.specs.FinMap as finite;
 ghost use Rattle.row_format.specs.Prelude.{coll_key};
@@ -14,7 +14,6 @@ ghost use Rattle.txn_planner.specs.Laying.{
   PutsBelow,
   AllTakeBelow,
   AllNamed,
-  first_of_names,
   is_as_long,
   with_onode,
   with_touched,
@@ -134,7 +133,7 @@ fn put_touched(
 // The first name of the objects that were looked at.
 fn first_name(alloc: Global, objects: &ByteMap<Touched>) -> Result<Option<Name>, AllocError>
     requires { AllNamed objects.now }
-    ensures { IfOk result (λ name. name ≡ first_of_names (finite.keys objects.now)) }
+    ensures { IfOk result (λ name. name ≡ slice_get (finite.keys objects.now) 0) }
 {
     match objects.entries().first() {
         Some((name, _)) => match Name::read(alloc, name.as_slice())? {

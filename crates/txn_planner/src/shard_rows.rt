@@ -10,7 +10,7 @@ ghost use Rattle.object_model.specs.Prelude.{is_same};
 ghost use Rattle.row_format.specs.Prelude.{Extent};
 ghost use Rattle.extent_shards.specs.Prelude.{shard_bytes, first_of};
 ghost use Rattle.txn_planner.specs.Laying.{
-  with_first,
+  with_first_page,
   without_shard,
   without_shards,
   has_value,
@@ -34,7 +34,7 @@ use unit_fields::{CollName, Name, UnitSet, Width};
 // Whether a shard that comes anew begins at this page, where one begins at the first page and others at these.
 #[tactic(auto, using(crate::proofs::Besides::anew_first, crate::proofs::Besides::anew_behind, crate::proofs::Besides::anew_none))]
 fn is_anew(first: Option<u32>, behind: &UnitSet, page: u32) -> bool
-    ensures { result ≡ set.contains (with_first first behind.now) page }
+    ensures { result ≡ set.contains (with_first_page first behind.now) page }
 {
     match first {
         Some(first) if first == page => true,
@@ -52,7 +52,7 @@ fn drop_shard(
     page: u32,
     changes: &mut RowChanges,
 ) -> Result<(), AllocError>
-    ensures { OnOk result (changes.new ≡ without_shard coll.now object.now (with_first first behind.now) page changes.old) }
+    ensures { OnOk result (changes.new ≡ without_shard coll.now object.now (with_first_page first behind.now) page changes.old) }
 {
     if is_anew(first, behind, page) {
         return Ok(());
@@ -70,7 +70,7 @@ fn drop_shards(
     pages: &[u32],
     changes: &mut RowChanges,
 ) -> Result<(), AllocError>
-    ensures { OnOk result (changes.new ≡ without_shards coll.now object.now (with_first first behind.now) pages.now changes.old) }
+    ensures { OnOk result (changes.new ≡ without_shards coll.now object.now (with_first_page first behind.now) pages.now changes.old) }
 {
     for page in pages {
         drop_shard(alloc, coll, object, first, behind, *page, changes)?;
@@ -122,29 +122,38 @@ fn row_beside<'a>(rows: &'a RowTable, beside: &mut RowRange<'a>, key: &[u8]) -> 
     first_at(beside, key)
 }
 
-// The shard with this value comes, but for one whose row has it already. The value is copied where it is new. The row of an only one isn't
-// looked at: the map has changed, so that has another value.
+// A shard that comes, to be put in its row.
+#[derive(Clone, Copy)]
+struct NewShard<'a> {
+    // The page at which it begins.
+    first: u32,
+    // The value of its row, which is lent.
+    value: &'a [u8],
+    // Whether it has all pages of the object.
+    is_only: bool,
+}
+
+// The shard comes, but for one whose row has its value already. The value is copied where it is new. The row of an only one isn't looked at:
+// the map has changed, so that has another value.
 fn put_shard<'a>(
     alloc: Global,
     rows: &'a RowTable,
     beside: &mut RowRange<'a>,
     coll: &CollName,
     object: &Name,
-    is_only: bool,
-    first: u32,
-    value: &[u8],
+    new: NewShard,
     changes: &mut RowChanges,
 ) -> Result<(), AllocError>
     requires { AreOfRows rows.now.rows beside.old }
-    ensures put { OnOk result ((width : Width) (shard : List Extent) → first_of shard ≡ first → value.now ≡ shard_bytes width shard
-        → changes.new ≡ with_shard width rows.now.rows coll.now object.now is_only shard changes.old) }
+    ensures put { OnOk result ((width : Width) (shard : List Extent) → first_of shard ≡ new.entry.first → new.entry.value.now ≡ shard_bytes width shard
+        → changes.new ≡ with_shard width rows.now.rows coll.now object.now new.entry.is_only shard changes.old) }
     ensures beside { AreOfRows rows.now.rows beside.new }
 {
-    let key = shard_key(alloc, coll, object, first)?;
-    if !is_only && has_value(row_beside(rows, beside, key.as_slice()), value) {
+    let key = shard_key(alloc, coll, object, new.first)?;
+    if !new.is_only && has_value(row_beside(rows, beside, key.as_slice()), new.value) {
         return Ok(());
     }
-    let value = Bytes::from_slice(alloc, value)?;
+    let value = Bytes::from_slice(alloc, new.value)?;
     changes.set(key, Some(value))
 }
 
@@ -167,17 +176,12 @@ fn put_shards(
     'shards: while !left.is_empty() {
         value.clear();
         let front = push_shard(&mut value, width, left, SHARD_BYTES)?;
-        put_shard(
-            alloc,
-            rows,
-            &mut beside,
-            coll,
-            object,
-            front.count == pages.len(),
-            front.first,
-            value.as_slice(),
-            changes,
-        )?;
+        let new = NewShard {
+            first: front.first,
+            value: value.as_slice(),
+            is_only: front.count == pages.len(),
+        };
+        put_shard(alloc, rows, &mut beside, coll, object, new, changes)?;
         if left.len() < pages.len() {
             behind.insert(front.first)?;
         }

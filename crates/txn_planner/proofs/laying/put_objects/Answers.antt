@@ -1,4 +1,5 @@
-use Rattle.std.proofs.Common.{◌≡◌, ℕ, ◌<◌, List, Option, Some, sym, ap, subst, ◌∙◌}
+use Rattle.std.proofs.Common.{◌≡◌, ℕ, ◌<◌, List, Option, Some, None, rules, sym, ap, subst, ◌∙◌}
+use Rattle.std.specs.Prelude.{slice_get}
 use Rattle.std.specs.Option.{option_map_or}
 use Rattle.std.specs.FinMap as finite
 use Rattle.byte_maps.specs.ByteMap.{ByteMap}
@@ -8,8 +9,8 @@ use Rattle.row_changes.specs.Prelude.{ChangeMap}
 use Rattle.plan_drafts.specs.Prelude.{Held}
 use Rattle.page_edits.specs.Writes.{held_in}
 use Rattle.txn_planner.specs.declared.touched.Touched.{Touched}
-use Rattle.txn_planner.specs.Laying.{first_of_names, with_touched, with_objects}
-use Rattle.txn_planner.proofs.ObjectNames.{left_some, names_left, names_behind, one_fewer}
+use Rattle.txn_planner.specs.Laying.{with_touched, with_objects}
+use Rattle.txn_planner.proofs.ObjectNames.{left_some, names_left, names_behind, no_names, one_fewer}
 use Rattle.txn_planner.proofs.laying.put_objects.Goals.{in-Some-take+in_ok-put_touched, in_default-take}
 use Rattle.txn_planner.proofs.laying.put_objects.Goals as goal
 
@@ -18,7 +19,7 @@ module _ (w : Width) (rows : Rows) (c units : List ℕ) (held : Held) where
   stepped o m z = option_map_or (λ t. with_touched w rows c units held o t m) z m
 
   next_object : (objects objects' : ByteMap Touched) (name key : List ℕ) (m m' target : ChangeMap)
-      → first_of_names (finite.keys objects) ≡ Some name → key ≡ name → objects' ≡ finite.remove objects key
+      → slice_get (finite.keys objects) 0 ≡ Some name → key ≡ name → objects' ≡ finite.remove objects key
       → m' ≡ stepped key m (finite.get objects key) → with_objects w rows c units held (finite.keys objects) objects m ≡ target
       → with_objects w rows c units held (finite.keys objects') objects' m' ≡ target
   next_object objects objects' name key m m' target first is taken made before =
@@ -65,3 +66,12 @@ names-preserved c =
       changes = next_object width rows coll units held objects c.take.new.self c.in-Some.name key m c.match-take.changes _ first c.as_slice.ensures.bytes c.take.ensures.taken made
           c.names.invariant.changes;
     }
+
+pub returns : goal.returns
+returns c =
+    let objects : ByteMap Touched = c.names.objects in
+    let missing : c.in_ok-name.field-0 ≡ None = search rules in
+    let none = no_names objects (sym c.in_ok-name.ensures ∙ missing) in
+    ap (λ l. with_objects c.args.width c.args.rows.now.rows c.args.coll.now c.args.units.now (held_in c.args.contents.now) l objects c.names.changes)
+    (sym none)
+    ∙ c.names.invariant.changes

@@ -118,9 +118,9 @@ impl<'a> RowRange<'a> {
         }
     }
 
-    /// Leaves out rows at the front, so that the first one left is the last one of which a test says that its value is reached. No row is
-    /// left out where none is reached. It bisects, where the rows that are reached stand in front of the others. (Ceph:
-    /// `seek_shard`, which bisects the shards of an extent map.)
+    /// Leaves out rows at the front: none, or so many that a test says of the first one left that its value is reached. It bisects: where the
+    /// rows that are reached stand in front of the others, it is meant to be the last of them, which no clause says. (Ceph: `seek_shard`,
+    /// which bisects the shards of an extent map.)
     pub fn skip_to<F: Fn(&Bytes) -> bool>(&mut self, is_reached: F)
         requires { F.IsAlwaysCallable is_reached }
         ensures { SkipsTo (λ value. FnReturnsAt F.Fn is_reached value true) self.old self.new }

@@ -14,6 +14,7 @@ ghost use Rattle.log_replay.specs.FoundOn.{IsJudged, as_found};
 use crate::opening::MountFail;
 use crate::replaying::FoundStore;
 use meta_log::Super;
+use onode_codec::RowKind;
 use row_check::{find_bad_row, marked_units};
 use std::alloc::{AllocError, Global};
 use unit_allocator::Allocator;
@@ -22,12 +23,10 @@ use unit_fields::{Fields, UnitNo, UnitSet};
 /// A number that is as high as this leaves too few above it.
 const HIGH: u64 = 1 << 61;
 
-/// The first byte of the keys of shared blobs, and the first one behind them.
-const FIRST_BLOB: &[u8] = b"X";
+/// What the keys of shared blobs begin with.
+const BLOB: u8 = RowKind::Shared as u8;
 
-const BLOBS_END: &[u8] = b"Y";
-
-/// The units that the bitmap marks, where no row is bad and each owned unit is marked and has one owner.
+/// The units that the bitmap marks, where no row is bad, each owned unit is marked and has one owner, and the count of each slot is right.
 fn units_of_rows(alloc: Global, found: &FoundStore) -> Result<UnitSet, MountFail>
     requires { IsSuper found.now.sup }
     ensures good { OnOk result (IsGood found.now.sup found.now.log.rows.rows) }
@@ -65,7 +64,7 @@ fn last_blob(found: &FoundStore) -> Option<u64>
     let (key, _) = found
         .log
         .rows
-        .range(FIRST_BLOB, Some(BLOBS_END))
+        .range(&[BLOB], Some(&[BLOB + 1]))
         .next_back()?;
     sbid_in(key.as_slice())
 }

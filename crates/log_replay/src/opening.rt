@@ -23,7 +23,7 @@ pub enum MountFail {
     /// The row under this key is bad, and each row of a lesser key is good.
     #[error("a row of the store is bad")]
     BadRow { key: Bytes },
-    /// The least unit that has an owner and whose bit is 0, or that has two owners. No row is bad.
+    /// The least unit that has an owner and whose bit is 0, that has two owners, or that is that of a slot with a wrong count. No row is bad.
     #[error("the bitmap doesn't say who owns unit {unit}")]
     NotExact { unit: u32 },
     /// The epoch, or else the number of the next record, or else the greatest number of a shared blob is 2^61 or more, so that numbers

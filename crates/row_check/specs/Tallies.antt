@@ -10,6 +10,7 @@ use Rattle.row_format.specs.Prelude.{shared_key, Body, private, shared, Extent, 
 use Rattle.store_image.specs.Prelude.{HasRow, HasSlot, IsCounted}
 use Rattle.ordered_lists.specs.Lists.{IsIn, Ascend, ListsAll}
 use Rattle.findings.specs.Findings.{SlotCount, SlotBefore, IsWrongCount, IsSlotAmong}
+use Rattle.row_reading.specs.Slots.{coded_slot}
 use Rattle.row_reading.specs.declared.row.Row as read
 use Rattle.row_reading.specs.declared.row.Row.TheVariants as variants
 use Rattle.row_reading.specs.Reading.{SpellsRow}
@@ -20,9 +21,6 @@ pub record Tally : Type 0 where
   pub first : ℕ
   pub slots : List Slot
   pub named : List ℕ
-
-abbrev pub coded_slot : Coded Slot
-coded_slot = code_by (ℕ × ℕ) (coded× coded_ℕ coded_ℕ) (λ x. (x.csum, x.count)) (λ p. record { csum = p.0; count = p.1 }) (λ _. refl)
 
 abbrev pub coded_tally : Coded Tally
 coded_tally = code_by (ℕ × (ℕ × (List Slot × List ℕ))) (coded× coded_ℕ (coded× coded_ℕ (coded× (coded_list coded_slot) (coded_list coded_ℕ))))

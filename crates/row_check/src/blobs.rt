@@ -7,7 +7,7 @@ ghost use Rattle.unit_fields.specs.declared.width.Width.{Width};
 ghost use Rattle.row_check.specs.Named.{SaysSlots, HasSoMany, IsCountSaid, IsNamedByOther, KnowsEarlier, named_too, all_named, row_named};
 
 use crate::in_place::are_data;
-use byte_maps::ByteMap;
+use crate::namers::Namers;
 use meta_log::Super;
 use meta_rows::RowTable;
 use onode_codec::{Body, Extent, shared_key};
@@ -62,7 +62,7 @@ fn says_slots(
 }
 
 // Whether a shard of another collection has named the blob with this key before.
-fn is_named_by_other(namers: &ByteMap<CollName>, key: &[u8], coll: &CollName) -> bool
+fn is_named_by_other(namers: &Namers, key: &[u8], coll: &CollName) -> bool
     ensures { IsTrue result ↔ IsNamedByOther namers.now key.now coll.now }
 {
     match namers.get(key) {
@@ -76,7 +76,7 @@ fn has_slots(
     alloc: Global,
     width: Width,
     rows: &RowTable,
-    namers: &ByteMap<CollName>,
+    namers: &Namers,
     coll: &CollName,
     extent: &Extent,
 ) -> Result<bool, AllocError>
@@ -102,7 +102,7 @@ pub(crate) fn all_have_slots(
     alloc: Global,
     width: Width,
     rows: &RowTable,
-    namers: &ByteMap<CollName>,
+    namers: &Namers,
     coll: &CollName,
     extents: &[Extent],
 ) -> Result<bool, AllocError>
@@ -120,7 +120,7 @@ pub(crate) fn all_have_slots(
 // A shard of the collection has the extent: it names the blob, if it is on slots of one.
 fn note(
     alloc: Global,
-    namers: &mut ByteMap<CollName>,
+    namers: &mut Namers,
     coll: &CollName,
     extent: &Extent,
 ) -> Result<(), AllocError>
@@ -138,14 +138,13 @@ fn note(
     if namers.contains_key(key.as_slice()) {
         return Ok(());
     }
-    let name = coll.copy(alloc)?;
-    namers.insert(key, name)
+    namers.insert(alloc, key, coll)
 }
 
 // The same of all extents of a shard.
 fn note_all(
     alloc: Global,
-    namers: &mut ByteMap<CollName>,
+    namers: &mut Namers,
     coll: &CollName,
     extents: &[Extent],
 ) -> Result<(), AllocError>
@@ -160,7 +159,7 @@ fn note_all(
 /// A row was passed: if it is a shard, its collection names the blobs on whose slots its pages stand.
 pub(crate) fn note_row(
     alloc: Global,
-    namers: &mut ByteMap<CollName>,
+    namers: &mut Namers,
     row: &Row,
 ) -> Result<(), AllocError>
     ensures { OnOk result (namers.new ≡ row_named namers.old row.now) }

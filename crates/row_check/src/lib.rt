@@ -14,6 +14,7 @@ mod bitmap;
 mod blobs;
 mod counts;
 mod in_place;
+mod namers;
 mod owners;
 mod passed;
 mod tallies;

@@ -7,7 +7,7 @@ ghost use Rattle.row_check.specs.Bad.{IsShardOf, EndsBefore, IsEndOf, EndsWith, 
 ghost use Rattle.row_check.specs.Named.{row_named};
 
 use crate::blobs::note_row;
-use byte_maps::ByteMap;
+use crate::namers::Namers;
 use onode_codec::Extent;
 use row_reading::Row;
 use std::alloc::{AllocError, Global};
@@ -23,7 +23,7 @@ pub(crate) struct Passed {
     /// Where it is a shard, the page at which the pages of its object's shards so far end: a shard behind it must not begin before.
     pub(crate) end: u64,
     /// For each blob that a shard has named, under the key of the blob's row, the collection of the first such shard.
-    pub(crate) namers: ByteMap<CollName>,
+    pub(crate) namers: Namers,
 }
 
 pub(crate) fn is_of_object(
@@ -83,7 +83,7 @@ impl Passed {
             last: None,
             in_place: false,
             end: 0,
-            namers: ByteMap::new(alloc),
+            namers: Namers::new(alloc),
         }
     }
 

@@ -1,10 +1,15 @@
--- The value of a shared blob's row, read from the front.
-use Rattle.std.specs.Prelude.{◌≡◌, ◌≢◌, ℕ, ◌+◌, ◌*◌, ◌<◌, ◌≤◌, ◌^◌, List, ◌++◌, length}
+-- Slots of a shared blob, and the value of its row, read from the front.
+use Rattle.std.specs.Prelude.{◌≡◌, ◌≢◌, ℕ, ◌+◌, ◌*◌, ◌<◌, ◌≤◌, ◌^◌, List, ◌++◌, length, refl}
+use Rattle.std.specs.Coded.{Coded, code_by, coded×, coded_ℕ}
 use Rattle.std.specs.List.{flat_map, AllByRecursion}
 use Rattle.std.specs.Int.{w16, w32, to_le_bytes}
 use Rattle.unit_fields.specs.declared.width.Width.{Width}
 use Rattle.unit_fields.specs.Prelude.{bytes_of}
 use Rattle.row_format.specs.Prelude.{Slot, slot_bytes, FitsSlot}
+
+-- a slot by its two numbers, as types that hold slots are coded
+abbrev pub coded_slot : Coded Slot
+coded_slot = code_by (ℕ × ℕ) (coded× coded_ℕ coded_ℕ) (λ x. (x.csum, x.count)) (λ p. record { csum = p.0; count = p.1 }) (λ _. refl)
 
 -- so many slots have so many bytes
 abbrev pub slots_size : Width → ℕ → ℕ

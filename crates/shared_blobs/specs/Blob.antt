@@ -5,6 +5,7 @@ use Rattle.std.specs.Coded.{Coded, code_by, coded×, coded_ℕ, coded_list}
 use Rattle.std.specs.Int.{w32, from_le_bytes}
 use Rattle.unit_fields.specs.declared.width.Width.{Width}
 use Rattle.row_format.specs.Prelude.{Slot, slots_read, blob, row_value, FitsBlob}
+use Rattle.row_reading.specs.Slots.{coded_slot}
 use Rattle.row_reading.specs.declared.row.Row.{Row}
 use Rattle.row_reading.specs.declared.row.Row.TheVariants as rows
 use Rattle.plan_rows.specs.Prelude.{with_less}
@@ -14,11 +15,8 @@ pub record Blob : Type 0 where
   pub first : ℕ
   pub slots : List Slot
 
-abbrev pub coded_slots : Coded (List Slot)
-coded_slots = coded_list (code_by (ℕ × ℕ) (coded× coded_ℕ coded_ℕ) (λ x. (x.csum, x.count)) (λ p. record { csum = p.0; count = p.1 }) (λ _. refl))
-
 abbrev pub coded_blob : Coded Blob
-coded_blob = code_by (ℕ × List Slot) (coded× coded_ℕ coded_slots) (λ b. (b.first, b.slots)) (λ p. record { first = p.0; slots = p.1 }) (λ _. refl)
+coded_blob = code_by (ℕ × List Slot) (coded× coded_ℕ (coded_list coded_slot)) (λ b. (b.first, b.slots)) (λ p. record { first = p.0; slots = p.1 }) (λ _. refl)
 
 -- ---- values of rows
 
@@ -69,6 +67,6 @@ with_one_more (x ∷ xs) (suc index) = x ∷ with_one_more xs index
 abbrev pub CanRaise : List Slot → ℕ → Type 0
 CanRaise slots index = (x : Slot) → slice_get slots index ≡ Some x → x.count < 2 ^ 32 - 1
 
--- the unit of the slot of this number, where one page named_once names it
+-- the unit of the slot of this number, where one page alone names it
 abbrev pub freed_by : Blob → ℕ → Option ℕ
 freed_by b index = option_map_or (λ (x : Slot). if x.count == 1 then Some (b.first + index) else None) (slice_get b.slots index) None

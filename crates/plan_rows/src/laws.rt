@@ -18,8 +18,9 @@ pub fn each_blob_has_a_home()
     ensures { (s : Super) (rows : Rows) → NoBadRow s rows → (home : ℕ → List ℕ) × AreAtHome (width_of s) home rows }
 {}
 
-/// Operations on rows of some collections and of the blobs at home there leave those of others and the blobs that these change, and change places with operations on those. The
-/// rows of the bitmap stay rows of it, and exactly the bits of the units that are taken and of those that are released are turned.
+/// Operations on rows of some collections and of the blobs at home there leave those of others and the blobs that operations on those change, and
+/// change places with such operations. The rows of the bitmap stay rows of it, and exactly the bits of the units that are taken and of those that
+/// are released are turned.
 pub fn collections_are_apart()
     ensures kept { (w : Width) (home : ℕ → List ℕ) (names others : List (List ℕ)) (taken released : List ℕ) (rows : Rows) (ops : List RowOp)
         → AreAtHome w home rows → AreOf home names taken released ops → AllByRecursion IsCollName others → HaveNoneInCommon names others

@@ -23,15 +23,15 @@ use Rattle.plan_rows.specs.Prelude.{AreAtHome}
 
 -- ---- some of a list
 
-any_case : {X : Type 0} (P : X → Type 0) (x : X) (xs : List X) → Any P (x ∷ xs) → P x ⊎ Any P xs
+pub any_case : {X : Type 0} (P : X → Type 0) (x : X) (xs : List X) → Any P (x ∷ xs) → P x ⊎ Any P xs
 any_case P x xs (zero, y, within, is, p) = inl (subst P (sym is) p)
 any_case P x xs (suc k, y, within, is, p) = inr (k, y, omega (arith, within), is, p)
 
-any_by : {X : Type 0} (P : X → Type 0) (x : X) (xs : List X) → P x ⊎ Any P xs → Any P (x ∷ xs)
+pub any_by : {X : Type 0} (P : X → Type 0) (x : X) (xs : List X) → P x ⊎ Any P xs → Any P (x ∷ xs)
 any_by P x xs (inl p) = (0, x, omega arith, refl, p)
 any_by P x xs (inr (k, y, within, is, p)) = (suc k, y, omega (arith, within), is, p)
 
-any_or_none : {X : Type 0} (P : X → Type 0) → ((x : X) → P x ⊎ ¬ P x) → (xs : List X) → Any P xs ⊎ ¬ Any P xs
+pub any_or_none : {X : Type 0} (P : X → Type 0) → ((x : X) → P x ⊎ ¬ P x) → (xs : List X) → Any P xs ⊎ ¬ Any P xs
 any_or_none P decide [] = inr (λ any. omega (arith, any.2))
 any_or_none P decide (x ∷ xs) = elim (decide x) [
   | inl p ↦ inl (any_by P x xs (inl p))

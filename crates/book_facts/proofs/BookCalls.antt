@@ -73,7 +73,7 @@ module _ (K : State → Type 0) (fact : IsBookFact K) where
             (fact.takes s (take_none s d.depth (ready_by_table s d.depth step.Take up caused.ready)).0 (kept.up up).flights.places.ascend known)
         of_take (inr check) = subst K (sym check.after) (rest_stays (check_begun s) refl refl refl refl)
     parts_go t events (rows.switches number limits is) (book.same same) caused = subst K (sym caused.does.after) (rest_stays (switched s) refl refl refl refl)
-    parts_go t events (rows.joins x is) (book.enters e entered) caused =
+    parts_go t events (rows.joins x more is) (book.enters e entered) caused =
         fact.accepts s d s' caused.client caused.line caused.change plans kept caused.known caused.accepts known
     parts_go t events (rows.applies number front back both fits is) (book.applies count all counted) caused =
         subst K (sym caused.does.after) (fact.commits s caused.does.batch known)

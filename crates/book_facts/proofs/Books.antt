@@ -34,9 +34,9 @@ pub nothing_twice : IsDistinct nat_eq []
 unfolding IsDistinct
 nothing_twice = tt
 
-pub book_opened : (opening : Objects) (f : Found) (space : Space) (events : ℕ) → IsShape f.rows opening
-    → KnownOfBook opening (opened f space events)
-book_opened opening f space events shape = record {
+pub book_opened : (opening : Objects) (f : Found) (space : Space) (next events : ℕ) → IsShape f.rows opening
+    → KnownOfBook opening (opened f space next events)
+book_opened opening f space next events shape = record {
   answers = tt;
   counts = tt;
   commits = record { of_accepted = tt; acked_first = tt; counted = refl; by_now = tt };

@@ -1,5 +1,5 @@
 -- What is known of the plan of an accepted transaction.
-use Rattle.std.proofs.Common.{ℕ, Contains}
+use Rattle.std.proofs.Common.{ℕ, Contains, refl}
 use Rattle.run_facts.proofs.Common.{Disk, IsSuper, width_of, Change, names_of, free_units, Plan, IsGood, PlansKeep, IsKnown}
 use Rattle.store_image.specs.Prelude.{IsMarked}
 use Rattle.plan_drafts.specs.Prelude.{fresh_units, Suits, PlanKeeps, PlanMakes, PlanTakes}
@@ -15,7 +15,7 @@ pub record IsKnownPlan (s : State) (change : Change) (plan : Plan) : Type 0 wher
   pub suits : Suits (width_of s.log.sup) (names_of change) s.submitted plan s.submitted
   pub keeps : PlanKeeps s.log.sup (names_of change) s.submitted plan
   pub makes : PlanMakes s.log.sup change s.submitted plan
-  pub takes : PlanTakes s.space change plan
+  pub takes : PlanTakes s.space s.next_sbid change s.submitted plan
 
 pub known_plan : PlansKeep → (s : State) (d : Disk) (client line : ℕ) (change : Change) (s' : State) → IsKept s d → IsKnown change.ops
     → (does : Accepts client line change s d s') → IsKnownPlan s change does.plan
@@ -23,11 +23,12 @@ known_plan plans s d client line change s' kept known does =
     let limits : IsSuper s.log.sup = kept.always.limits in
     let space : IsSpaceOf s.log.sup s.space = kept.always.space in
     let rows : AreRowsKept (rows_part s) = (kept.up does.can_note.up).rows in
-    let takes : PlanTakes s.space change does.plan = accepted_takes plans s d client line change s' limits space rows known does in
+    let takes : PlanTakes s.space s.next_sbid change s.submitted does.plan = accepted_takes plans s d client line change s' limits space rows known does in
     record {
       good = submitted_good s limits space rows;
       suits = record {
         agree = agree_itself (width_of s.log.sup) (names_of change) s.submitted;
+        blobs = λ sbid changes. refl;
         unmarked = all_then (λ u. Contains (free_units s.space) u) (λ u. ¬ IsMarked s.submitted u) (fresh_units does.plan)
             (λ u free. ((submitted_free s limits space rows).free u free).2) takes.free;
       };

@@ -13,8 +13,8 @@ use Rattle.book_facts.proofs.Queues.{entry_push, queued_noted, queued_accepted, 
 use Rattle.book_facts.proofs.Books.{KeepBook, batch_of, nothing_twice, IsKeptByNext, kept_by_take, all_taken, queues_taken}
 
 -- at the start
-pub order_opened : (f : Found) (space : Space) (events : ℕ) → IsInOrder (opened f space events)
-order_opened f space events = record { of_accepted = tt; queued = record { once = nothing_twice; in_order = λ coll. refl }; contexts = tt }
+pub order_opened : (f : Found) (space : Space) (next events : ℕ) → IsInOrder (opened f space next events)
+order_opened f space next events = record { of_accepted = tt; queued = record { once = nothing_twice; in_order = λ coll. refl }; contexts = tt }
 
 -- a call that changes neither the book nor what is under way
 pub order_stays : (s s' : State) → KeepBook s s' → IsInOrder s → IsInOrder s'

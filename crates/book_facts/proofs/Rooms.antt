@@ -52,7 +52,7 @@ part_same p q space half rows reserved = record {
 part_leaves : (p q : RowsPart) (goes : RowsGo p q) → IsNoJoin goes → HasRoom p → PartLeaves p q
 part_leaves p q (rows.same is) alone has =
     part_same p q (ap (λ (r : RowsPart). r.space) is) (ap (λ (r : RowsPart). r.sup.half) is) (ap (λ (r : RowsPart). r.rows) is) (ap (λ (r : RowsPart). r.reserved) is)
-part_leaves p q (rows.joins x is) alone has = absurd alone
+part_leaves p q (rows.joins x more is) alone has = absurd alone
 part_leaves p q (rows.reorders later complete is) alone has =
     part_same p q (ap (λ (r : RowsPart). r.space) is) (ap (λ (r : RowsPart). r.sup.half) is) (ap (λ (r : RowsPart). r.rows) is) (ap (λ (r : RowsPart). r.reserved) is)
 part_leaves p q (rows.switches number limits is) alone has =

@@ -24,8 +24,8 @@ pub fn a_context_has_one_name()
 
 /// The book of a kernel that was just opened is known, for all objects whose shape the rows have.
 pub fn a_new_book_is_known()
-    ensures { (opening : Objects) (f : Found) (space : Space) (events : ℕ) → IsShape f.rows opening →
-        KnownOfBook opening (opened f space events) }
+    ensures { (opening : Objects) (f : Found) (space : Space) (next events : ℕ) → IsShape f.rows opening →
+        KnownOfBook opening (opened f space next events) }
 {}
 
 /// What is known of the book stays known over each call of the kernel, also over one that leaves it down.
@@ -44,7 +44,7 @@ pub fn a_known_book_is_legal()
 /// The order of transactions stays known along a run, whatever objects the rows stand for: each collection's are committed as they were
 /// accepted, and none twice.
 pub fn a_run_keeps_the_order()
-    ensures opened { (f : Found) (space : Space) (events : ℕ) → IsInOrder (opened f space events) }
+    ensures opened { (f : Found) (space : Space) (next events : ℕ) → IsInOrder (opened f space next events) }
     ensures kept { (calls : List Call) (s s' : State) (d d' : Disk) → PlansKeep → IsKept s d → IsInOrder s → IsRun s d calls s' d' → IsInOrder s' }
 {}
 

@@ -96,12 +96,12 @@ walk_counted (Err (walk.Down ticket)) failed free before a b now up cause first 
 -- ---- a mounted store
 
 -- a kernel that was just opened has nothing to do
-drained_open : (depth : ℕ) (f : Found) (space : Space) (events : ℕ) → is_drained depth (opened f space events) ≡ true
-drained_open depth f space events = refl
+drained_open : (depth : ℕ) (f : Found) (space : Space) (next events : ℕ) → is_drained depth (opened f space next events) ≡ true
+drained_open depth f space next events = refl
 
 module _ (given : Disk) (f : Found) (space : Space) (start : Disk) (s : State) (mounted : IsOpenedOn given f space start s) where
   pub opened_drained : is_drained start.depth s ≡ true
-  opened_drained = ap (λ (z : State). is_drained start.depth z) mounted.state ∙ drained_open start.depth f space mounted.events
+  opened_drained = ap (λ (z : State). is_drained start.depth z) mounted.state ∙ drained_open start.depth f space mounted.next mounted.events
 
   -- nothing of it is in memory
   pub opened_empty : memory_of s ≡ no_memory

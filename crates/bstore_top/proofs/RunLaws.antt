@@ -112,7 +112,7 @@ clients_run fail x scripts s d s' d' ran =
 pub opened_book : (opening : Objects) (given : Disk) (f : Found) (space : Space) (start : Disk) (s : State) → IsOpenedOn given f space start s
     → IsShape f.rows opening → KnownOfBook opening s
 opened_book opening given f space start s mounted shape =
-    subst (KnownOfBook opening) (sym mounted.state) (book_opened opening f space mounted.events shape)
+    subst (KnownOfBook opening) (sym mounted.state) (book_opened opening f space mounted.next mounted.events shape)
 
 -- the book of a run from there is legal but for the bytes that reads gave, for all objects whose shape the rows have
 pub legal_of : (given : Disk) (f : Found) (space : Space) (start : Disk) (s closed : State) (disk : Disk) (calls : List Call) (book : Book)
@@ -296,7 +296,7 @@ module _ (seed : ℕ) (scripts : List (List Line)) (given disk : Disk) (end : Wo
 
   all_complete : IsComplete book
   all_complete =
-      let first : IsInOrder done.first = subst IsInOrder (sym done.mounted.state) (order_opened done.found done.space done.mounted.events) in
+      let first : IsInOrder done.first = subst IsInOrder (sym done.mounted.state) (order_opened done.found done.space done.mounted.next done.mounted.events) in
       let known : IsInOrder done.last = order_run up_to_end.0 done.first done.last done.start done.left plans_keep all.kept first up_to_end.1 in
       subst IsComplete (sym (book_at_end seed scripts given disk end book done idle))
       (order_complete done.last done.left kept_to_end known idle.1 idle.0)

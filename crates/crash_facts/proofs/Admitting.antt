@@ -51,8 +51,8 @@ module _ (opening : Objects) (s : State) (client line : ℕ) (change : Change) (
   stand_now : SelectionsStand (width_of s.log.sup) (held_or_last h (xs ++ one ∷ [])) s.log.rows (xs ++ one ∷ [])
       (replay opening (applied_changes s)) (es ++ entry ∷ [])
   unfolding of_one
-  stand_now = one_more_stands s.log.sup s.log.rows xs one limits kept.good kept.planned kept.apart can h (replay opening (applied_changes s)) es entry
-      (under_way_of opening s book) of_one plan.read (subst (λ (rows : Rows). PlanMakes s.log.sup change rows plan) kept.submitted makes) read stand
+  stand_now = one_more_stands s.log.sup s.log.rows xs one limits kept.good kept.planned kept.apart kept.homes can h (replay opening (applied_changes s)) es entry
+      (under_way_of opening s book) of_one plan.read plan.new_blobs (subst (λ (rows : Rows). PlanMakes s.log.sup change rows plan) kept.submitted makes) read stand
 
   -- the context is the last of those under way
   pushed : (let t : State = accepted_with client line change plan s in intents (uncommitted t) ≡ xs ++ one ∷ [])

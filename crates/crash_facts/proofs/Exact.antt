@@ -116,10 +116,10 @@ touched_contents base h (touch.on_slot ticket unit bytes) reached = same_content
 abbrev AreExact : (ℕ → Type 0) → RowsPart → Type 0
 AreExact leaked p = SelectionsAreExact (width_of p.sup) leaked p.rows p.intents
 
-part_exact : (leaked : ℕ → Type 0) (p q : RowsPart) → RowsGo p q → ((x : Intent) → q ≡ with_accepted x p → AreExact leaked q) → AreExact leaked p
+part_exact : (leaked : ℕ → Type 0) (p q : RowsPart) → RowsGo p q → ((x : Intent) (more : ℕ) → q ≡ with_accepted x more p → AreExact leaked q) → AreExact leaked p
     → AreExact leaked q
 part_exact leaked p q (same is) one every = subst (AreExact leaked) (sym is) every
-part_exact leaked p q (joins x is) one every = one x is
+part_exact leaked p q (joins x more is) one every = one x more is
 part_exact leaked p q (reorders later order is) one every =
     subst (AreExact leaked) (sym is) (λ some fair. every some (fair_among is_in later p.intents some (λ n. sym (order n)) fair))
 part_exact leaked p q (switches number limits is) one every = subst (AreExact leaked) (sym is) every
@@ -136,5 +136,5 @@ footprint_exact base s s' d d' h f kept up reached every =
     let before : List ℕ = contents_at base h in
     subst (λ (contents : List ℕ). AreExact (IsLeakedIn contents) (rows_part s')) (sym (touched_contents base h f.touch reached))
     (part_exact (IsLeakedIn before) (rows_part s) (rows_part s') f.rows
-    (λ x is. kept_selections before s' d' kept up (subst (λ (q : RowsPart). IsExactBut (width_of q.sup) (IsLeakedIn before) q.rows) (sym is)
+    (λ x more is. kept_selections before s' d' kept up (subst (λ (q : RowsPart). IsExactBut (width_of q.sup) (IsLeakedIn before) q.rows) (sym is)
     (rows_exact (width_of s.log.sup) (IsLeakedIn before) s.log.rows (intents (uncommitted s)) every))) every)

@@ -20,7 +20,7 @@ use Rattle.plan_rows.specs.declared.plan.ReadUnit.{ReadUnit}
 use Rattle.plan_rows.specs.Prelude.{HoldsFresh, fresh_units, IsGood, Suits, HoldsRead, PlanMakes}
 use Rattle.selections.specs.Fair.{under, HasLast}
 use Rattle.selections.proofs.Selecting.{own_last, other_last, other_inside, with_last, all_selected}
-use Rattle.store_steps.specs.Prelude.{Intent, names_in, is_in, plan_of, rows_by, taken_by, EachIsPlanned, AreTakenApart, CanJoin}
+use Rattle.store_steps.specs.Prelude.{Intent, names_in, is_in, plan_of, rows_by, taken_by, EachIsPlanned, AreTakenApart, HaveHomes, CanJoin}
 use Rattle.space_facts.proofs.Prelude.{listed_all, is_own, each_named, keeps_on_data, small_of, selection_good, idle_unmarked, suits_last, rows_last}
 use Rattle.book_facts.specs.Prelude.{IsOfEntry, IsFairSelection, changes_of, SelectionsStand}
 use Rattle.book_facts.proofs.Prelude.{all_push, all_then, change_kept, entry_push}
@@ -78,10 +78,10 @@ entry_changes es e (x ∷ xs) are =
 -- ---- one more is under way
 
 module _ (sup : Super) (rows : Rows) (xs : List Intent) (x : Intent) (limits : IsSuper sup) (good : IsGood sup rows)
-    (each : EachIsPlanned sup rows xs) (apart : AreTakenApart rows xs) (can : CanJoin sup rows xs x) (h : History) (objects : Objects)
+    (each : EachIsPlanned sup rows xs) (apart : AreTakenApart rows xs) (homes : HaveHomes (width_of sup) rows xs) (can : CanJoin sup rows xs x) (h : History) (objects : Objects)
     (es : List Entry) (e : Entry) (of_entries : AllByRecursion (IsOfEntry es) xs) (of_x : IsOfEntry (es ++ e ∷ []) x)
-    (read : List ReadUnit) (makes : PlanMakes sup of_x.change (rows_by rows xs) (record (plan_of x) { read = read }))
-    (reads : HoldsRead (held_or_last h xs) (record (plan_of x) { read = read })) (stand : SelectionsStand (width_of sup) (held_or_last h xs) rows xs objects es) where
+    (read : List ReadUnit) (made : ℕ) (makes : PlanMakes sup of_x.change (rows_by rows xs) (record (plan_of x) { read = read; new_blobs = made }))
+    (reads : HoldsRead (held_or_last h xs) (record (plan_of x) { read = read; new_blobs = made })) (stand : SelectionsStand (width_of sup) (held_or_last h xs) rows xs objects es) where
   abbrev w : Width
   w = width_of sup
 
@@ -89,7 +89,7 @@ module _ (sup : Super) (rows : Rows) (xs : List Intent) (x : Intent) (limits : I
   more = es ++ e ∷ []
 
   abbrev plan : Plan
-  plan = record (plan_of x) { read = read }
+  plan = record (plan_of x) { read = read; new_blobs = made }
 
   abbrev at : ℕ → List ℕ
   at = held_or_last h xs
@@ -137,11 +137,11 @@ module _ (sup : Super) (rows : Rows) (xs : List Intent) (x : Intent) (limits : I
 
     unread_suits : Suits w (names_of of_x.change) (rows_by rows xs) (plan_of x) before
     unread_suits = subst (λ (names : List (List ℕ)). Suits w names (rows_by rows xs) (plan_of x) before) (sym of_x.same_names)
-        (suits_last sup rows xs x limits good each apart can some has)
+        (suits_last sup rows xs x limits good each apart homes can some has)
 
     -- whatever old bytes were read
     suits : Suits w (names_of of_x.change) (rows_by rows xs) plan before
-    suits = record { agree = unread_suits.agree; unmarked = unread_suits.unmarked }
+    suits = record { agree = unread_suits.agree; blobs = unread_suits.blobs; unmarked = unread_suits.unmarked }
 
     is_good : IsGood sup before
     is_good = selection_good sup rows xs good each rest has.without
@@ -176,7 +176,7 @@ module _ (sup : Super) (rows : Rows) (xs : List Intent) (x : Intent) (limits : I
     with_it : ObjectsStand w then_at (rows_by rows some) (replay objects (changes_of more some))
     with_it =
         subst (λ (r : Rows). ObjectsStand w then_at r (replay objects (changes_of more some)))
-        (sym (rows_last sup rows xs x limits good each apart can some has))
+        (sym (rows_last sup rows xs x limits good each apart homes can some has))
         (subst (ObjectsStand w then_at (rows_after before x.ops)) (sym objects_are) stands_last)
 
   pub one_more_stands : SelectionsStand w then_at rows (xs ++ x ∷ []) objects more

@@ -107,11 +107,11 @@ call_keeps call s s' d d' plans kept sound keeps made h base opening told counte
 
 -- ---- a mounted store
 
-pub mounted_keeps : (f : Found) (space : Space) (events : ℕ) (d : Disk) → d.flights ≡ []
+pub mounted_keeps : (f : Found) (space : Space) (next events : ℕ) (d : Disk) → d.flights ≡ []
     → ((h : History) (base : ℕ) (opening : Objects) → d.history ≡ Some h → length h.log ≡ base + events → IsStart base h opening
-    → IsMounted base opening f events h) → KeepsDurable (opened f space events) d
-mounted_keeps f space events d none mounted h base opening told counted start =
-    mounted_durable base opening f space events d h told none (mounted h base opening told counted start)
+    → IsMounted base opening f events h) → KeepsDurable (opened f space next events) d
+mounted_keeps f space next events d none mounted h base opening told counted start =
+    mounted_durable base opening f space next events d h told none (mounted h base opening told counted start)
 
 -- ---- what it comes to
 

@@ -59,7 +59,7 @@ module _ (base : ℕ) (opening : Objects) (s s' : State) (d : Disk) (h : History
   -- so the old bytes over which an accepted transaction was planned are held
   pub old_bytes : (one : AcceptsOne s d s') → HoldsOldBytes s h one.accepts.plan
   old_bytes one = holds one.accepts.plan.read
-      (plan_read (width_of s.log.sup) one.change s.submitted s.space one.accepts.plan one.accepts.plans)
+      (plan_read (width_of s.log.sup) one.change s.submitted s.space s.next_sbid one.accepts.plan one.accepts.plans)
       (each_found (memory_of s) (IsHeldAt d) (places_of one.change.ops one.accepts.plans.start) one.accepts.plan.read one.accepts.plans.read.units one.accepts.read)
 
 -- no unit whose old bytes are asked for is bad

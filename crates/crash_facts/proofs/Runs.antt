@@ -144,13 +144,13 @@ run_durable base opening (call ∷ calls) s s' d d' plans kept durable run =
 
 -- ---- a store that was just mounted
 
-pub mounted_durable : (base : ℕ) (opening : Objects) (f : Found) (space : Space) (events : ℕ) (d : Disk) (h : History) → d.history ≡ Some h
-    → d.flights ≡ [] → IsMounted base opening f events h → IsDurable base opening (opened f space events) d
-mounted_durable base opening f space events d h told none is =
-    let s : State = opened f space events in
+pub mounted_durable : (base : ℕ) (opening : Objects) (f : Found) (space : Space) (next events : ℕ) (d : Disk) (h : History) → d.history ≡ Some h
+    → d.flights ≡ [] → IsMounted base opening f events h → IsDurable base opening (opened f space next events) d
+mounted_durable base opening f space next events d h told none is =
+    let s : State = opened f space next events in
     let known : KnownOfStore base opening s d h = record {
-      units = opened_known base f is.recs space events d h told none is.answered is.clean is.slots is.rests is.half;
-      book = book_opened opening f space events is.stand.shape;
+      units = opened_known base f is.recs space next events d h told none is.answered is.clean is.slots is.rests is.half;
+      book = book_opened opening f space next events is.stand.shape;
       stand = stand_none (width_of f.sup) (held_or_last h []) f.rows opening []
           (objects_stand (width_of f.sup) (last_at h) (held_or_last h []) f.rows (λ unit has. refl) opening is.stand);
       exact = exact_none (width_of f.sup) (IsLeakedIn (contents_at base h)) f.rows is.exact;

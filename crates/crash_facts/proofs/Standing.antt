@@ -254,7 +254,7 @@ module _ (opening : Objects) (s s' : State) (d d' : Disk) (h : History) (plans :
       same_stand xs (λ n. refl) is (λ some of. changes_acknowledged s.events (book_part s) (book_part s') some same) t u placed
   of_parts t u placed (rows.reorders later order is) (book.commits more none same) caused =
       same_stand later order is (λ some of. changes_committed (book_part s) (book_part s') more some same of) t u placed
-  of_parts t u placed (rows.joins x is) (book.enters e entered) caused = accepts_stand opening s d s' h plans kept up known stand caused (reads caused)
+  of_parts t u placed (rows.joins x more is) (book.enters e entered) caused = accepts_stand opening s d s' h plans kept up known stand caused (reads caused)
   of_parts t u placed (rows.applies number front back both fits is) (book.applies count all counted) caused =
       commits_stand opening s d s' d' h kept up held known stand caused.does
   of_parts t u placed (rows.switches number limits is) (book.same same) caused =

@@ -15,8 +15,8 @@ ghost use Rattle.meta_log.specs.Prelude.{width_of};
 /// A store that was mounted, on a device where nothing is in flight and that tells its log, is durable from the start, for the objects
 /// that the contents stood for when the mount began.
 pub fn a_mounted_store_is_durable()
-    ensures { (base : ℕ) (opening : Objects) (f : Found) (space : Space) (events : ℕ) (d : Disk) (h : History) → d.history ≡ Some h →
-        d.flights ≡ [] → IsMounted base opening f events h → IsDurable base opening (opened f space events) d }
+    ensures { (base : ℕ) (opening : Objects) (f : Found) (space : Space) (next events : ℕ) (d : Disk) (h : History) → d.history ≡ Some h →
+        d.flights ≡ [] → IsMounted base opening f events h → IsDurable base opening (opened f space next events) d }
 {}
 
 /// Each call leaves it durable, also one that takes the end of a submission that ended badly.
@@ -97,9 +97,9 @@ pub fn a_call_keeps_durability()
 /// a mount leaves it if the device tells its log and the mount began at a start.
 #[tactic(auto, using(crate::proofs::Keeping::mounted_keeps))]
 pub fn a_mounted_store_keeps_durability()
-    ensures { (f : Found) (space : Space) (events : ℕ) (d : Disk) → d.flights ≡ [] →
+    ensures { (f : Found) (space : Space) (next events : ℕ) (d : Disk) → d.flights ≡ [] →
         ((h : History) (base : ℕ) (opening : Objects) → d.history ≡ Some h → length h.log ≡ base + events → IsStart base h opening →
-        IsMounted base opening f events h) → KeepsDurable (opened f space events) d }
+        IsMounted base opening f events h) → KeepsDurable (opened f space next events) d }
 {}
 
 /// So whoever has a kernel, over a device that tells its log, has prefix durability: whatever a crash at any cut since the start leaves

@@ -52,6 +52,11 @@ pub record IsLastBlob (rows : Rows) (sbid : ℕ) : Type 0 where
   pub has : HasBlob rows sbid
   pub last : (other : ℕ) → HasBlob rows other → other ≤ sbid
 
+-- it is the number of the next shared blob: the one behind the greatest of the rows, or 1 where there is none
+pub data IsNextBlob (rows : Rows) : ℕ → Type 0 where
+  first : ((sbid : ℕ) → ¬ HasBlob rows sbid) → IsNextBlob rows 1
+  behind : (sbid : ℕ) → IsLastBlob rows sbid → IsNextBlob rows (sbid + 1)
+
 -- the numbers leave room for those to come, which stay below 2^62
 pub record HasLowNumbers (f : Found) : Type 0 where
   pub epoch : f.sup.epoch < 2 ^ 61

@@ -8,7 +8,7 @@ ghost use Rattle.bitmap_freelist.specs.Bitmap.{AreMarked};
 ghost use Rattle.unit_allocator.specs.Prelude.{is_free, holds_of};
 ghost use Rattle.plan_rows.specs.Prelude.{IsGood};
 ghost use Rattle.run_facts.specs.Prelude.{IsSpaceOf};
-ghost use Rattle.log_replay.specs.Opening.{HasBlob, IsLastBlob, HasLowNumbers, IsWornOut, IsMountRefused};
+ghost use Rattle.log_replay.specs.Opening.{HasBlob, IsLastBlob, IsNextBlob, HasLowNumbers, IsWornOut, IsMountRefused};
 ghost use Rattle.log_replay.specs.FoundOn.{IsJudged, as_found};
 
 use crate::opening::MountFail;
@@ -67,6 +67,18 @@ fn last_blob(found: &FoundStore) -> Option<u64>
         .range(&[BLOB], Some(&[BLOB + 1]))
         .next_back()?;
     sbid_in(key.as_slice())
+}
+
+/// The number of the next shared blob, above those of all that there are.
+pub fn next_blob(found: &FoundStore) -> u64
+    requires good { NoBadRow found.now.sup found.now.log.rows.rows }
+    requires low { HasLowNumbers (as_found found.now) }
+    ensures { IsNextBlob found.now.log.rows.rows result }
+{
+    match last_blob(found) {
+        Some(sbid) => sbid + 1,
+        None => 1,
+    }
 }
 
 /// The number for which the store takes no more work, if there is one.

@@ -25,7 +25,7 @@ mod stale;
 mod zeroing;
 
 pub use clearing::clear_behind;
-pub use judging::judge;
+pub use judging::{judge, next_blob};
 pub use making::{MkfsFail, mkfs, units_needed};
 pub use opening::{MountFail, failed};
 pub use other_half::{other_runs, stale_runs};

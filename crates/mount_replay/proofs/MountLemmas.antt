@@ -17,7 +17,7 @@ use Rattle.run_facts.specs.Prelude.{IsOpenable, IsKept}
 use Rattle.run_facts.proofs.Prelude.{kept_open}
 use Rattle.crash_facts.specs.Store.{KeepsDurable, IsMounted}
 use Rattle.crash_facts.proofs.Keeping.{mounted_keeps}
-use Rattle.log_replay.specs.Prelude.{Told, IsLater, IsAllClean, AreClearing, IsCleared, ClearsSoFar, IsAbout, IsFoundIn, IsMountRefused, IsUnopenable, FailsMount, IsFoundOn, IsJudged, as_found, first_behind, half_end, rest_of, AreStaleOf, IsLogCleared, ClearsLog, AreZeroOutside, AreRunsOn}
+use Rattle.log_replay.specs.Prelude.{Told, IsLater, IsAllClean, AreClearing, IsCleared, ClearsSoFar, IsAbout, IsFoundIn, IsNextBlob, first, behind, IsMountRefused, IsUnopenable, FailsMount, IsFoundOn, IsJudged, as_found, first_behind, half_end, rest_of, AreStaleOf, IsLogCleared, ClearsLog, AreZeroOutside, AreRunsOn}
 use Rattle.mount_replay.specs.Mounting.{with_stale, IsStaleIn, behind_records, WasOpened, IsOpenedOn, MountStaysDurable}
 use Rattle.log_replay.specs.declared.opening.MountFail.{MountFail}
 use Rattle.log_replay.specs.declared.opening.MountFail.TheVariants.{Memory, NoSuper, BadRow, NotExact, WornOut, Fault}
@@ -145,9 +145,9 @@ module _ (s : FoundStore) (d : Disk) (sound : IsSound d) (found : IsFoundOn d s)
       (subst (λ l. ClearsSoFar (first_behind s) (half_end s) l h k) rest so_far)
       (subst (λ l. IsCleared (first_behind s) (half_end s) l count h k) rest cleared) good.exact (other_rests h k told clean so_far))
 
-  pub opened_durable : (space : Space) (count : ℕ) (now : Disk) → now.flights ≡ [] → Told (ClearsLog s found.half) d.history now.history
-      → Told (IsLogCleared s found.half count) d.history now.history → KeepsDurable (opened (with_stale s runs) space count) now
-  opened_durable space count now idle so_far cleared = mounted_keeps (with_stale s runs) space count now idle (λ k base opening told counted start.
+  pub opened_durable : (space : Space) (next count : ℕ) (now : Disk) → now.flights ≡ [] → Told (ClearsLog s found.half) d.history now.history
+      → Told (IsLogCleared s found.half count) d.history now.history → KeepsDurable (opened (with_stale s runs) space next count) now
+  opened_durable space next count now idle so_far cleared = mounted_keeps (with_stale s runs) space next count now idle (λ k base opening told counted start.
       let both = told_both (ClearsLog s found.half) (IsLogCleared s found.half count) (Both count) d.history now.history (λ h k p q. (p, q)) so_far cleared in
       let before = told_before (Both count) d.history k (subst (λ o. Told (Both count) d.history o) told both) in
       mounted_by count before.old k base opening before.told before.holds counted start)
@@ -162,8 +162,18 @@ module _ (s : FoundStore) (d : Disk) (sound : IsSound d) (found : IsFoundOn d s)
     rests = λ clean. other_rests h k told clean both.0;
   }
 
-  openable : (space : Space) (units : ℕ) → s.sup.units ≡ units → IsJudged (as_found s) space → IsOpenable (with_stale s runs) space units
-  openable space units same judged = record {
+  -- the next number is above those of all blobs, and low
+  above : (next : ℕ) → IsNextBlob s.log.rows.rows next → IsAboveBlobs next s.log.rows.rows
+  above _ (first none) sbid small has = absurd (none sbid (small, has))
+  above _ (behind last is) sbid small has = omega (arith, is.last sbid (small, has))
+
+  low_next : (next : ℕ) → IsNextBlob s.log.rows.rows next → HasLowNumbers (as_found s) → next ≤ 2 ^ 62
+  low_next _ (first none) low = omega arith
+  low_next _ (behind last is) low = omega (arith, low.blobs last is.has)
+
+  openable : (space : Space) (next units : ℕ) → s.sup.units ≡ units → IsJudged (as_found s) space → IsNextBlob s.log.rows.rows next
+      → IsOpenable (with_stale s runs) space next units
+  openable space next units same judged is_next = record {
     limits = found.limits;
     units_are = same;
     number = omega (arith, judged.numbers.number);
@@ -176,20 +186,26 @@ module _ (s : FoundStore) (d : Disk) (sound : IsSound d) (found : IsFoundOn d s)
     space = judged.units;
     counted = counted_none s.sup s.log.rows.rows space judged.idle;
     held = judged.held;
+    above = above next is_next;
+    sbids = low_next next is_next judged.numbers;
   }
 
-  pub opened_kept : (space : Space) (count : ℕ) (now : Disk) → IsSound now → now.flights ≡ [] → now.units ≡ d.units → count ≤ 4194308
-      → IsJudged (as_found s) space → IsKept (opened (with_stale s runs) space count) now
-  opened_kept space count now now_sound idle same few judged =
-      kept_open (with_stale s runs) space count now now_sound idle (omega (arith, few)) (openable space now.units (found.units_are ∙ sym same) judged)
+  pub opened_kept : (space : Space) (next count : ℕ) (now : Disk) → IsSound now → now.flights ≡ [] → now.units ≡ d.units → count ≤ 4194308
+      → IsJudged (as_found s) space → IsNextBlob s.log.rows.rows next → IsKept (opened (with_stale s runs) space next count) now
+  opened_kept space next count now now_sound idle same few judged is_next =
+      kept_open (with_stale s runs) space next count now now_sound idle (omega (arith, few))
+      (openable space next now.units (found.units_are ∙ sym same) judged is_next)
 
-  pub opened_on : (space : Space) (count : ℕ) (now : Disk) (state : State) → IsJudged (as_found s) space → IsLater d now
+  pub opened_on : (space : Space) (next count : ℕ) (now : Disk) (state : State) → IsJudged (as_found s) space → IsNextBlob s.log.rows.rows next
+      → IsLater d now
       → Told (ClearsLog s found.half) d.history now.history → Told (IsLogCleared s found.half count) d.history now.history
-      → state ≡ opened (with_stale s runs) space count → IsOpenedOn d (with_stale s runs) space now state
-  opened_on space count now state judged later so_far cleared is =
+      → state ≡ opened (with_stale s runs) space next count → IsOpenedOn d (with_stale s runs) space now state
+  opened_on space next count now state judged is_next later so_far cleared is =
       let both = told_both (ClearsLog s found.half) (IsLogCleared s found.half count) (Both count) d.history now.history (λ h k p q. (p, q)) so_far cleared in
       record {
-        openable = openable space d.units found.units_are judged;
+        next = next;
+        next_is = is_next;
+        openable = openable space next d.units found.units_are judged is_next;
         unmarked = judged.unmarked;
         numbers = record { epoch = judged.numbers.epoch; number = judged.numbers.number; blobs = judged.numbers.blobs };
         found = about_both d (λ contents. IsFoundIn contents (as_found s) × (found.half ≡ active_half contents s.sup))

@@ -12,7 +12,7 @@ use Rattle.plan_rows.specs.Prelude.{IsGood}
 use Rattle.store_steps.specs.declared.step.Step.TheVariants.{Reap}
 use Rattle.store_steps.specs.Prelude.{State, Found, opened, Call, stepping, IsRun}
 use Rattle.run_facts.specs.Prelude.{IsOpenable}
-use Rattle.log_replay.specs.Prelude.{Told, GoesOn, GoesOnBy, IsLater, IsAllClean, AreClearing, ClearsSoFar, IsAbout, IsFoundIn, HasLowNumbers, AreUnmarkedFree, AreZeroOutside, as_found}
+use Rattle.log_replay.specs.Prelude.{Told, GoesOn, GoesOnBy, IsLater, IsAllClean, AreClearing, ClearsSoFar, IsAbout, IsFoundIn, IsNextBlob, HasLowNumbers, AreUnmarkedFree, AreZeroOutside, as_found}
 use Rattle.log_replay.specs.declared.replaying.FoundStore.{FoundStore}
 
 -- the bytes of the active half behind the records
@@ -38,14 +38,16 @@ pub record WasOpened (f : Found) (count : ℕ) (old new : History) : Type 0 wher
   pub rests : IsAllClean old → OtherHalfRests new f.sup (in_runs f.stale)
 
 -- A kernel that was opened on this device: what the device holds is a store that a kernel can be opened on, the units behind its records
--- were cleared, and the kernel's state is the one that it begins in.
+-- were cleared, and the kernel's state is the one that it begins in, with the number behind the greatest of its shared blobs as the next one.
 pub record IsOpenedOn (given : Disk) (f : Found) (space : Space) (now : Disk) (s : State) : Type 0 where
-  pub openable : IsOpenable f space given.units
+  pub next : ℕ
+  pub next_is : IsNextBlob f.rows next
+  pub openable : IsOpenable f space next given.units
   pub unmarked : AreUnmarkedFree f space
   pub numbers : HasLowNumbers f
   pub found : IsAbout given (λ contents. IsFoundIn contents f × IsStaleIn contents f)
   pub events : ℕ
-  pub state : s ≡ opened f space events
+  pub state : s ≡ opened f space next events
   pub later : IsLater given now
   pub told : Told (WasOpened f events) given.history now.history
 

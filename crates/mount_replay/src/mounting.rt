@@ -7,11 +7,11 @@ ghost use Rattle.store_steps.specs.declared.step.Step.TheVariants.{Reap};
 ghost use Rattle.store_steps.specs.Prelude.{State, Found, is_ready, Calls, stepping};
 ghost use Rattle.run_facts.specs.Prelude.{IsKept};
 ghost use Rattle.crash_facts.specs.Store.{KeepsDurable};
-ghost use Rattle.log_replay.specs.Prelude.{Told, IsLater, FailsMount, SubmitsNothing, IsFoundOn, IsJudged, AreStaleOf, AreRunsOn, IsLogCleared, ClearsLog, as_found};
+ghost use Rattle.log_replay.specs.Prelude.{Told, IsLater, FailsMount, SubmitsNothing, IsNextBlob, IsFoundOn, IsJudged, AreStaleOf, AreRunsOn, IsLogCleared, ClearsLog, as_found};
 ghost use Rattle.mount_replay.specs.Mounting.{IsOpenedOn, BeganToClear, LeftUnopened, MountStaysDurable, IsReapedTo, with_stale};
 
 use block_device::{Device, Failed};
-use log_replay::{FoundStore, MountFail, clear_behind, failed, find_store, judge, other_runs};
+use log_replay::{FoundStore, MountFail, clear_behind, failed, find_store, judge, next_blob, other_runs};
 use meta_log::UnitRun;
 use meta_rows::RowTable;
 use meta_store::MetaStore;
@@ -52,6 +52,7 @@ fn open_on<D: Device>(
     stale: Vec<UnitRun>,
     submitted: RowTable,
     space: Allocator,
+    next_sbid: u64,
 ) -> Result<Kernel<D>, (MountFail, D)>
     requires sound { IsSound (D.disk dev) }
     requires idle { (D.disk dev).flights ≡ [] }
@@ -59,6 +60,7 @@ fn open_on<D: Device>(
     requires stale { AreRunsOn (D.disk dev) (other_unit found.sup) found.sup.half stale.items }
     requires submitted { submitted.rows ≡ found.log.rows.rows }
     requires judged { IsJudged (as_found found) space }
+    requires next { IsNextBlob found.log.rows.rows next_sbid }
     ensures ok { IfOk result (λ k. IsOpenedOn (D.disk dev) (with_stale found stale.items) space (D.disk k.device) k.state) }
     ensures fails { IfErr result (λ e. FailsMount e.0 (D.disk dev) (D.faults dev) (D.faults e.1)) }
     ensures began { IfErr result (λ e. ¬ SubmitsNothing e.0) }
@@ -76,7 +78,7 @@ fn open_on<D: Device>(
     };
     let FoundStore { sup, log, stale: _ } = found;
     let meta = MetaStore::open(&sup, log.rows, log.tail, log.number, stale);
-    let kernel = Kernel::open(alloc, dev, meta, submitted, space, events);
+    let kernel = Kernel::open(alloc, dev, meta, submitted, space, next_sbid, events);
     kernel.facts();
     Ok(kernel)
 }
@@ -113,7 +115,8 @@ pub fn mount<D: Device>(alloc: Global, dev: D) -> Result<Kernel<D>, (MountFail, 
         Ok(stale) => stale,
         Err(why) => return Err((failed(why), dev)),
     };
-    open_on(alloc, dev, found, stale, submitted, space)
+    let next_sbid = next_blob(&found);
+    open_on(alloc, dev, found, stale, submitted, space, next_sbid)
 }
 
 /// Whether something is in flight.

@@ -15,7 +15,7 @@ use Rattle.object_model.specs.Prelude.{Change, is_same}
 use Rattle.unit_fields.specs.Prelude.{IsName}
 use Rattle.unit_fields.specs.declared.width.Width.{Width}
 use Rattle.meta_rows.specs.Prelude.{Rows}
-use Rattle.row_format.specs.Prelude.{Place, own}
+use Rattle.row_format.specs.Prelude.{Place}
 use Rattle.store_image.specs.Prelude.{HasOnode, PageUnit, StandsOn, IsPageOn, HasPage}
 use Rattle.unit_allocator.specs.Prelude.{Space}
 use Rattle.plan_drafts.specs.declared.draft.Draft.{Draft}
@@ -207,9 +207,9 @@ all_units P [] all = tt
 all_units P (r ∷ read) all = (all.0, all_units P read all.1)
 
 -- and on each unit that was read for a plan
-pub plan_read : (w : Width) (change : Change) (rows : Rows) (space : Space) (plan : Plan) → Plans w change rows space plan
+pub plan_read : (w : Width) (change : Change) (rows : Rows) (space : Space) (next : ℕ) (plan : Plan) → Plans w change rows space next plan
     → AllByRecursion (λ r. HasPage w rows r.unit) plan.read
-plan_read w change rows space plan is = all_units (HasPage w rows) plan.read (subst (AllByRecursion (HasPage w rows)) (sym is.read.units)
+plan_read w change rows space next plan is = all_units (HasPage w rows) plan.read (subst (AllByRecursion (HasPage w rows)) (sym is.read.units)
     (units_have_pages w rows (places_of change.ops is.start)
     (all_places w rows change.coll is.layouts is.begins.has change.ops is.start
     (kept_first w rows change.coll is.layouts is.start is.begins) is.begins.stand is.taken)))

@@ -119,8 +119,9 @@ pub record MakesDraft (w : Width) (rows : Rows) (c : List ℕ) (layouts : List �
   pub turns : TurnsBits (fresh_units plan) plan.released flips
 
 -- A plan of a transaction over rows: it isn't too large, each operation is taken after those before it, the takings take the lowest free units in
--- order, old bytes were read where they are needed, and the plan makes what the operations make of the collection.
-pub record Plans (w : Width) (change : Change) (rows : Rows) (space : Space) (plan : Plan) : Type 0 where
+-- order, old bytes were read where they are needed, and the plan makes what the operations make of the collection. It makes no blob, and the next
+-- number of one is below 2^62.
+pub record Plans (w : Width) (change : Change) (rows : Rows) (space : Space) (next : ℕ) (plan : Plan) : Type 0 where
   pub named : IsCollName change.coll
   pub small : is_too_large change ≡ false
   pub layouts : List ℕ → Option Layout
@@ -132,3 +133,5 @@ pub record Plans (w : Width) (change : Change) (rows : Rows) (space : Space) (pl
   pub makes : MakesDraft w rows change.coll layouts (take (with_ops change.ops start).taken (free_units space))
       (held_by plan.read change.ops start none_held) (with_ops change.ops start) plan
   pub csums_fit : AllByRecursion (λ f. crc32c f.bytes < 2 ^ 32) plan.fresh
+  pub none_made : plan.new_blobs ≡ 0
+  pub low : next + plan.new_blobs ≤ 2 ^ 62

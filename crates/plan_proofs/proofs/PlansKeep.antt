@@ -1,5 +1,5 @@
 -- Each plan keeps and makes what is asked of a plan.
-use Rattle.std.proofs.Common.{◌≡◌, ◌⊎◌, ◌↔◌, inl, inr, ℕ, zero, suc, ◌+◌, ◌*◌, ◌<◌, ◌≤◌, ◌^◌, false, List, [], ◌∷◌, length, map, take, Contains, Ok, refl, sym, ap, subst, ◌∙◌, arith, length-append}
+use Rattle.std.proofs.Common.{◌≡◌, ◌⊎◌, ◌↔◌, inl, inr, ℕ, zero, suc, ◌+◌, ◌*◌, ◌<◌, ◌≤◌, ◌^◌, false, List, [], ◌∷◌, length, map, take, Contains, Ok, is_some, refl, sym, ap, subst, ◌∙◌, arith, length-append}
 use Rattle.std.specs.Prelude.{slice_index, sum_by, nat_lt}
 use Rattle.std.specs.List.{AllByRecursion}
 use Rattle.std.specs.FinMap as finite
@@ -18,8 +18,8 @@ use Rattle.object_model.specs.declared.op.Op.{Op}
 use Rattle.object_model.specs.Prelude.{Objects, Change, names_of, is_named, transaction_effect, with_collection, is_too_large, payload_of, payload_limit}
 use Rattle.object_model.proofs.Names.{is_own}
 use Rattle.unit_fields.specs.Prelude.{Ascends}
-use Rattle.row_format.specs.Prelude.{Place, shard}
-use Rattle.store_image.specs.Prelude.{HasPage, PageUnit, StandsOn, HasShard, IsNamedBy, NoBadRow, IsDataUnit, IsOwned, IsMarked, IsExactAs, IsShape, ObjectsStand}
+use Rattle.row_format.specs.Prelude.{Place, shard, shared_key}
+use Rattle.store_image.specs.Prelude.{HasKey, HasPage, PageUnit, StandsOn, HasShard, IsNamedBy, NoBadRow, IsDataUnit, IsOwned, IsMarked, IsExactAs, IsShape, ObjectsStand}
 use Rattle.bitmap_freelist.proofs.Alike.{object_key_is_other, alike_back, alike_has_row, alike_shape, alike_stand}
 use Rattle.bitmap_freelist.proofs.Records.{flips_fit, flips_size, flips_count}
 use Rattle.unit_allocator.specs.Prelude.{Space, free_units}
@@ -29,7 +29,9 @@ use Rattle.plan_drafts.specs.declared.draft.Draft.{Draft}
 use Rattle.plan_rows.specs.declared.plan.FreshUnit.{FreshUnit}
 use Rattle.plan_rows.specs.declared.plan.Plan.{Plan}
 use Rattle.plan_rows.specs.declared.plan.SlotNo.{SlotNo}
-use Rattle.plan_drafts.specs.Prelude.{Held, CollDraft, with_op, with_ops, places_of, held_by, none_held, Begins, most_units_of, most_units, Stands, HoldsFresh, StandsOnce, fresh_units, Plans, AreFreeOver, IsKeyOfDraft, IsKeyOfSlot, IsKeyOfSome, AreAtHomeIn, IsKeyOfBlob, AreOf, IsGood, Suits, OwnsItsUnits, AreWhole, PlanKeeps, HoldsRead, PlanMakes, PlanTakes, PlansKeep, units_on, AsksAreFew}
+use Rattle.plan_drafts.specs.Prelude.{Held, CollDraft, with_op, with_ops, places_of, held_by, none_held, Begins, most_units_of, most_units, Stands, HoldsFresh, StandsOnce, fresh_units, Plans, AreFreeOver, IsKeyOfDraft, IsKeyOfSlot, IsKeyOfSome, AreAtHomeIn, IsKeyOfBlob, MakesBlob, AreOf, IsGood, Suits, OwnsItsUnits, AreWhole, PlanKeeps, HoldsRead, PlanMakes, PlanTakes, PlansKeep, units_on, AsksAreFew}
+use Rattle.plan_rows.proofs.Apart.{no_blob_key, changed_among}
+use Rattle.plan_rows.proofs.Homes.{named_there}
 use Rattle.plan_proofs.proofs.DraftBits.{AreTurned, alike, last_was, last_owned, last_left, last_taken, last_gone, last_good, last_exact}
 use Rattle.page_edits.specs.Takings.{WereRead}
 use Rattle.plan_proofs.proofs.DraftBytes.{ByteLaws, AllWhole, on_same, all_hold, all_whole}
@@ -122,7 +124,7 @@ few_in_all counts change small =
 -- ---- one plan
 
 module _ (laws : EditLaws) (lengths : LengthLaw) (bytes : ByteLaws) (counts : CountLaws) (s : Super) (view : Rows) (good : IsGood s view) (space : Space)
-    (free : AreFreeOver s view space) (change : Change) (plan : Plan) (p : Plans (width_of s) change view space plan) where
+    (free : AreFreeOver s view space) (next : ℕ) (change : Change) (plan : Plan) (p : Plans (width_of s) change view space next plan) where
   abbrev c : List ℕ
   c = change.coll
 
@@ -351,6 +353,26 @@ module _ (laws : EditLaws) (lengths : LengthLaw) (bytes : ByteLaws) (counts : Co
   named : AllByRecursion (λ op. IsKeyOfDraft c y (key_of op)) difference
   named = keys_named view difference p.makes.in_order p.makes.changes (width_of s) c p.layouts units held y p.makes.gets
 
+  -- a blob whose row the operations change is one whose slots pages left
+  its_slot : (sbid : ℕ) → IsKeyOfDraft c y (shared_key sbid) → IsKeyOfSlot y.unshared (shared_key sbid)
+  its_slot sbid (inl mine) = absurd (no_blob_key c _ (key_in c (shared_key sbid) mine))
+  its_slot sbid (inr of) = of
+
+  -- such a one has a row
+  has_row : (key : List ℕ) → IsKeyOfSlot y.unshared key → HasKey view key
+  has_row key of =
+      let x = of.among.1 in
+      subst (HasKey view) (ap shared_key of.among.4 ∙ sym of.is)
+      (named_there s view good.good c x.sbid (left x (of.among.0, of.among.2, of.among.3)))
+
+  -- so they make none
+  none_made : (sbid : ℕ) → MakesBlob view plan.ops sbid → ⊥
+  none_made sbid makes =
+      let key = changed_among (IsKeyOfDraft c y) (fresh_units plan) plan.released plan.ops difference p.makes.flips p.makes.ops_are named p.makes.turns
+      sbid makes.changes in
+      let there = has_row (shared_key sbid) (its_slot sbid key) in
+      absurd (let none = sym there ∙ ap is_some makes.new in cc)
+
   module _ (home : ℕ → List ℕ) (at_home : AreAtHomeIn (width_of s) home (names_of change) view) where
     -- a blob whose slots pages left is at home in the collection
     blob_at_home : (key : List ℕ) → IsKeyOfSlot y.unshared key → IsKeyOfBlob home (names_of change) key
@@ -377,13 +399,14 @@ module _ (laws : EditLaws) (lengths : LengthLaw) (bytes : ByteLaws) (counts : Co
   suits_itself : Suits (width_of s) (names_of change) view plan view
   suits_itself = record {
     agree = record { own = λ key its. refl; blobs = λ d sbid among named. refl };
+    blobs = λ sbid changes. refl;
     unmarked = all_listed (λ u. ¬ IsMarked view u) (fresh_units plan) (λ v k. let t = (fresh_stand v).0 k in
         subst (λ u. ¬ IsMarked view u) (sym t.2) (free.free (slice_index units t.0) (is_free_unit t.0 t.1)).2);
   }
 
   keeps : PlanKeeps s (names_of change) view plan
   keeps = record {
-    of = are_of;
+    of = λ home at_home made. are_of home at_home;
     fit = subst AllFit (sym p.makes.ops_are) (all_append FitsRowOp difference p.makes.flips
         (difference_fits s view difference c p.layouts units held y (drafted view suits_itself good) p.makes.in_order p.makes.changes named)
         (flips_fit p.makes.turns.units p.makes.flips p.makes.turns.are_flips));
@@ -391,7 +414,7 @@ module _ (laws : EditLaws) (lengths : LengthLaw) (bytes : ByteLaws) (counts : Co
     ascend = ascends;
     good = keeps_good;
     exact = keeps_exact;
-    home = λ home rows suits over at_home d sbid named. at_home d sbid (names_kept rows suits over d sbid named);
+    home = λ home rows suits over at_home made d sbid named. at_home d sbid (names_kept rows suits over d sbid named);
     owns = owns_units;
   }
 
@@ -418,7 +441,7 @@ module _ (laws : EditLaws) (lengths : LengthLaw) (bytes : ByteLaws) (counts : Co
     bytes = λ rows o later at later_at suits over stand is read holds same. makes_bytes rows suits over o later at later_at stand is read holds same;
   }
 
-  takes : PlanTakes space change plan
+  takes : PlanTakes space next change view plan
   takes = record {
     free = all_listed (Contains (free_units space)) (fresh_units plan) (λ v k. let t = (fresh_stand v).0 k in
         subst (Contains (free_units space)) (sym t.2) (is_free_unit t.0 t.1));
@@ -431,18 +454,21 @@ module _ (laws : EditLaws) (lengths : LengthLaw) (bytes : ByteLaws) (counts : Co
       p.begins.none_taken,
     );
     few = few_in_all counts change p.small;
+    numbers = λ sbid makes. absurd (none_made sbid makes);
+    low = p.low;
   }
 
-  pub all_three : PlanKeeps s (names_of change) view plan × (PlanMakes s change view plan × PlanTakes space change plan)
+  pub all_three : PlanKeeps s (names_of change) view plan × (PlanMakes s change view plan × PlanTakes space next change view plan)
   all_three = (keeps, (makes, takes))
 
 pub plans_keep_by : EditLaws → LengthLaw → ByteLaws → CountLaws → PlansKeep
-plans_keep_by laws lengths bytes counts s view space change plan good free known plans =
-    all_three laws lengths bytes counts s view good space free change plan plans
+plans_keep_by laws lengths bytes counts s view space next change plan good free above known plans =
+    all_three laws lengths bytes counts s view good space free next change plan plans
 
-pub short_by : EditLaws → LengthLaw → ByteLaws → CountLaws → (s : Super) (view : Rows) (space : Space) (change : Change) (plan : Plan) → IsGood s view
-    → AreFreeOver s view space → Plans (width_of s) change view space plan → length (ops_bytes plan.ops) ≤ 2 ^ 40 + rows_size view
-short_by laws lengths bytes counts s view space change plan good free plans = short laws lengths bytes counts s view good space free change plan plans
+pub short_by : EditLaws → LengthLaw → ByteLaws → CountLaws → (s : Super) (view : Rows) (space : Space) (next : ℕ) (change : Change) (plan : Plan)
+    → IsGood s view → AreFreeOver s view space → Plans (width_of s) change view space next plan → length (ops_bytes plan.ops) ≤ 2 ^ 40 + rows_size view
+short_by laws lengths bytes counts s view space next change plan good free plans =
+    short laws lengths bytes counts s view good space free next change plan plans
 
 pub asks_are_few_by : CountLaws → AsksAreFew
 asks_are_few_by counts w change rows need places asks =

@@ -19,8 +19,8 @@ pub fn plans_keep()
 
 /// The operations of a plan take few bytes in a record, and no more than the rows that may go.
 pub fn records_are_short()
-    ensures { (s : Super) (view : Rows) (space : Space) (change : Change) (plan : Plan) → IsGood s view → AreFreeOver s view space
-        → Plans (width_of s) change view space plan → length (ops_bytes plan.ops) ≤ 2 ^ 40 + rows_size view }
+    ensures { (s : Super) (view : Rows) (space : Space) (next : ℕ) (change : Change) (plan : Plan) → IsGood s view
+        → AreFreeOver s view space → Plans (width_of s) change view space next plan → length (ops_bytes plan.ops) ≤ 2 ^ 40 + rows_size view }
 {}
 
 /// Before it is planned, a transaction asks for no more units than its operations ask for at most.

@@ -1,5 +1,5 @@
 -- Operations on rows of collections and of blobs at home there: what they leave alone, and that they change places with those on rows of others.
-use Rattle.std.proofs.Common.{◌≡◌, ◌≢◌, ◌↔◌, ◌⊎◌, inl, inr, ℕ, ◌<◌, ◌^◌, Bool, true, false, ◌||◌, List, [], ◌∷◌, ◌++◌, drop, Option, Some, Contains, refl, sym, ap, subst, ◌∙◌, arith}
+use Rattle.std.proofs.Common.{◌≡◌, ◌≢◌, ◌↔◌, ◌⊎◌, inl, inr, ℕ, suc, ◌<◌, ◌^◌, Bool, true, false, ◌||◌, List, [], ◌∷◌, ◌++◌, drop, Option, Some, Contains, refl, sym, ap, subst, ◌∙◌, arith}
 use Rattle.std.specs.Prelude.{unwrap_or}
 use Rattle.std.specs.List.{AllByRecursion}
 use Rattle.std.specs.Int.{w32, to_be_bytes}
@@ -8,7 +8,7 @@ use Rattle.byte_maps.proofs.Prelude.{same}
 use Rattle.unit_fields.specs.Prelude.{IsCollName}
 use Rattle.unit_fields.specs.declared.width.Width.{Width}
 use Rattle.unit_fields.proofs.CollNames.{no_zero_in_coll}
-use Rattle.meta_rows.specs.Prelude.{Rows, rows_after, LeaveAlone}
+use Rattle.meta_rows.specs.Prelude.{Rows, rows_after, key_of, LeaveAlone}
 use Rattle.meta_rows.specs.declared.row_op.RowOp.{RowOp}
 use Rattle.meta_rows.proofs.Folds.{rows_after-append}
 use Rattle.meta_rows.proofs.RowLemmas.{get-rows_after_other}
@@ -17,11 +17,12 @@ use Rattle.object_model.proofs.Names.{same_name}
 use Rattle.row_format.specs.Prelude.{shared_key, a_shared_blob, thing_of, bit_row, bit_in}
 use Rattle.row_format.proofs.Prelude.{same_head, first_zero, shared_again}
 use Rattle.store_image.specs.Prelude.{IsNamedBy, bit_of, IsMarked}
-use Rattle.bitmap_freelist.specs.Bitmap.{AreBitmapRows, Has, IsOtherKey, ExactlyOne}
+use Rattle.bitmap_freelist.specs.Bitmap.{Units, AreFlipsFrom, AreBitmapRows, Has, IsOtherKey, ExactlyOne}
 use Rattle.bitmap_freelist.proofs.Turning.{leave_others, change_order, stay_in_table, turn_their_units}
-use Rattle.plan_rows.specs.Prelude.{IsObjectKind, IsKeyIn, IsKeyOfSome, AreAtHome, IsKeyOfBlob, AgreeOn, AreOf, HaveNoneInCommon}
+use Rattle.plan_rows.specs.Prelude.{IsObjectKind, IsKeyIn, IsKeyOfSome, AreAtHome, IsKeyOfBlob, ChangesBlob, AgreeOn, AgreeOnBlobs, AreOf, HaveNoneInCommon}
+use Rattle.plan_rows.specs.Layouts.{TurnsBits}
 use Rattle.plan_rows.proofs.Alike.{after_alike, alone_or}
-use Rattle.plan_rows.proofs.Homes.{named_low}
+use Rattle.plan_rows.proofs.Homes.{both_hold, named_low}
 use Rattle.plan_rows.proofs.Agreeing.{named_too}
 
 -- ---- keys
@@ -55,7 +56,7 @@ no_bitmap_key c rest (inr a) = not_bit a.0 a.3 (sym (same_head 0x62 a.0 rest _ a
 not_blob : (kind : ℕ) → IsObjectKind kind → kind ≢ 0x58
 not_blob kind is = kind_not kind 0x58 is (λ e. absurd (omega (arith, e))) (λ e. absurd (omega (arith, e))) (λ e. absurd (omega (arith, e)))
 
-no_blob_key : (c rest : List ℕ) → IsKeyIn c (0x58 ∷ rest) → ⊥
+pub no_blob_key : (c rest : List ℕ) → IsKeyIn c (0x58 ∷ rest) → ⊥
 no_blob_key c rest (inl a) = omega (arith, same_head 0x58 0x43 rest c a)
 no_blob_key c rest (inr a) = not_blob a.0 a.3 (sym (same_head 0x58 a.0 rest _ a.4))
 
@@ -137,6 +138,57 @@ kept_apart w home names others taken released rows ops at_home of named apart = 
 
     own : (key : List ℕ) → IsKeyOfSome others key → finite.get (rows_after rows ops) key ≡ finite.get rows key
     own key is = left key (inl is)
+
+-- ---- the rows of blobs
+
+-- operations that turn bits are on no row of another key
+flips_alone : (units : Units) (from : ℕ) (flips : List RowOp) (key : List ℕ) → AreFlipsFrom units from flips → IsOtherKey key → LeaveAlone flips key
+flips_alone units from [] key are other = tt
+flips_alone units from (op ∷ flips) key are other =
+    (λ e. other are.0 are.1.below (sym e ∙ ap key_of are.1.is), flips_alone units (suc are.0) flips key are.2 other)
+
+both_alone : (ops more : List RowOp) (key : List ℕ) → LeaveAlone ops key → LeaveAlone more key → LeaveAlone (ops ++ more) key
+both_alone [] more key alone also = also
+both_alone (op ∷ ops) more key alone also = (alone.0, both_alone ops more key alone.1 also)
+
+no_bit_of : (sbid : ℕ) → IsOtherKey (shared_key sbid)
+no_bit_of sbid r below e = omega (arith, same_head 0x58 0x62 _ _ e)
+
+-- a blob whose row operations change is that of a key of theirs, since those that turn bits are on none
+pub changed_among : (P : List ℕ → Type 0) (taken released : List ℕ) (ops own flips : List RowOp) → ops ≡ own ++ flips
+    → AllByRecursion (λ op. P (key_of op)) own → TurnsBits taken released flips → (sbid : ℕ) → ChangesBlob ops sbid → P (shared_key sbid)
+changed_among P taken released ops own flips is keys turns sbid changes = elim (alone_or P own (shared_key sbid) keys) [
+  | inr p ↦ p
+  | inl alone ↦
+      let also : LeaveAlone flips (shared_key sbid) = flips_alone turns.units 0 flips (shared_key sbid) turns.are_flips (no_bit_of sbid) in
+      let all : LeaveAlone ops (shared_key sbid) =
+      subst (λ l. LeaveAlone l (shared_key sbid)) (sym is) (both_alone own flips (shared_key sbid) alone also) in
+      let both = both_hold (λ op. key_of op ≢ shared_key sbid) (λ op. key_of op ≡ shared_key sbid) ops all changes.1 in
+      absurd (both.1 both.2)
+]
+
+-- a blob whose row operations on rows of collections change is at home in one of these
+pub changed_own : (home : ℕ → List ℕ) (names : List (List ℕ)) (taken released : List ℕ) (ops : List RowOp) → AreOf home names taken released ops
+    → (sbid : ℕ) → ChangesBlob ops sbid → IsOwn home names (shared_key sbid)
+changed_own home names taken released ops of =
+    changed_among (IsOwn home names) taken released ops of.own of.flips of.is of.keys of.turns
+
+pub changed_at_home : (home : ℕ → List ℕ) (names : List (List ℕ)) (taken released : List ℕ) (ops : List RowOp) → AreOf home names taken released ops
+    → (sbid : ℕ) → ChangesBlob ops sbid → is_named (home sbid) names ≡ true
+changed_at_home home names taken released ops of sbid changes = elim (changed_own home names taken released ops of sbid changes) [
+  | inl mine ↦ absurd (no_blob_key mine.coll _ mine.of)
+  | inr mine ↦ subst (λ n. is_named (home n) names ≡ true) (sym (same_blob sbid mine.sbid changes.0 mine.small mine.is)) mine.among
+]
+
+-- and one that operations on rows of other collections change is left alone
+pub blobs_apart : (home : ℕ → List ℕ) (names others : List (List ℕ)) (taken released other_taken other_released : List ℕ) (rows : Rows)
+    (ops more : List RowOp) → AreOf home names taken released ops → AreOf home others other_taken other_released more → HaveNoneInCommon names others
+    → AgreeOnBlobs more (rows_after rows ops) rows
+blobs_apart home names others taken released other_taken other_released rows ops more mine theirs apart sbid changes =
+    leaves home names others theirs.named apart taken released rows ops (shared_key sbid) mine
+    (changed_own home others other_taken other_released more theirs sbid changes)
+
+-- ---- the order
 
 -- where the own rows are left alone only the bits are turned
 bits_only : (home : ℕ → List ℕ) (names : List (List ℕ)) (taken released key : List ℕ) (rows : Rows) (ops : List RowOp)

@@ -15,23 +15,23 @@ use Rattle.unit_fields.specs.declared.width.Width.{Width}
 use Rattle.meta_rows.specs.Prelude.{Rows}
 use Rattle.meta_log.specs.declared.slot.Super.{Super}
 use Rattle.meta_log.specs.Prelude.{width_of}
-use Rattle.row_format.specs.Prelude.{Body, private, shared, FitsBody, FitsExtent, NamesBlob, ShardRow, as_row, shard_in, no_shard, row_key, row_value, FitsRow, shard, shard_key}
+use Rattle.row_format.specs.Prelude.{Body, private, shared, FitsBody, FitsExtent, NamesBlob, ShardRow, as_row, shard_in, no_shard, row_key, row_value, FitsRow, shard, shard_key, shared_key}
 use Rattle.row_format.proofs.Prelude.{same_row, is_shard_or_none}
-use Rattle.store_image.specs.Prelude.{IsNamedBy, IsNamedEarlier, HasSlots, IsGoodRow, NoBadRow}
+use Rattle.store_image.specs.Prelude.{HasKey, IsNamedBy, IsNamedEarlier, HasSlots, IsGoodRow, NoBadRow}
 use Rattle.store_image.proofs.Prelude.{number_cases, in_place}
 use Rattle.plan_rows.specs.Prelude.{AreAtHome}
 
 -- ---- some of a list
 
-any_case : {X : Type 0} (P : X → Type 0) (x : X) (xs : List X) → Any P (x ∷ xs) → P x ⊎ Any P xs
+pub any_case : {X : Type 0} (P : X → Type 0) (x : X) (xs : List X) → Any P (x ∷ xs) → P x ⊎ Any P xs
 any_case P x xs (zero, y, within, is, p) = inl (subst P (sym is) p)
 any_case P x xs (suc k, y, within, is, p) = inr (k, y, omega (arith, within), is, p)
 
-any_by : {X : Type 0} (P : X → Type 0) (x : X) (xs : List X) → P x ⊎ Any P xs → Any P (x ∷ xs)
+pub any_by : {X : Type 0} (P : X → Type 0) (x : X) (xs : List X) → P x ⊎ Any P xs → Any P (x ∷ xs)
 any_by P x xs (inl p) = (0, x, omega arith, refl, p)
 any_by P x xs (inr (k, y, within, is, p)) = (suc k, y, omega (arith, within), is, p)
 
-any_or_none : {X : Type 0} (P : X → Type 0) → ((x : X) → P x ⊎ ¬ P x) → (xs : List X) → Any P xs ⊎ ¬ Any P xs
+pub any_or_none : {X : Type 0} (P : X → Type 0) → ((x : X) → P x ⊎ ¬ P x) → (xs : List X) → Any P xs ⊎ ¬ Any P xs
 any_or_none P decide [] = inr (λ any. omega (arith, any.2))
 any_or_none P decide (x ∷ xs) = elim (decide x) [
   | inl p ↦ inl (any_by P x xs (inl p))
@@ -41,7 +41,7 @@ any_or_none P decide (x ∷ xs) = elim (decide x) [
   ]
 ]
 
-both_hold : {X : Type 0} (P Q : X → Type 0) (xs : List X) → AllByRecursion P xs → Any Q xs → (x : X) × P x × Q x
+pub both_hold : {X : Type 0} (P Q : X → Type 0) (xs : List X) → AllByRecursion P xs → Any Q xs → (x : X) × P x × Q x
 both_hold P Q [] all any = absurd (omega (arith, any.2))
 both_hold P Q (x ∷ xs) all any = elim (any_case Q x xs any) [
   | inl q ↦ (x, all.0, q)
@@ -105,6 +105,19 @@ named_low w rows c sbid named =
 not_earlier : (w : Width) (rows : Rows) (c : List ℕ) (sbid : ℕ) (b : Body) → HasSlots w rows c b → NamesBlob sbid b → ¬ IsNamedEarlier w rows c sbid
 not_earlier w rows c sbid (private unit csums) has names = absurd names
 not_earlier w rows c sbid (shared other first count) has names = subst (λ n. ¬ IsNamedEarlier w rows c n) names has.2
+
+-- the blob has a row
+held_there : (w : Width) (rows : Rows) (c : List ℕ) (sbid : ℕ) (b : Body) → HasSlots w rows c b → NamesBlob sbid b → HasKey rows (shared_key sbid)
+held_there w rows c sbid (private unit csums) has names = absurd names
+held_there w rows c sbid (shared other first count) has names = subst (λ n. HasKey rows (shared_key n)) names has.0
+
+-- so, where no row is bad, it has one if a shard names it
+pub named_there : (s : Super) (rows : Rows) → NoBadRow s rows → (c : List ℕ) (sbid : ℕ) → IsNamedBy (width_of s) rows c sbid
+    → HasKey rows (shared_key sbid)
+named_there s rows good c sbid named =
+    let placed = in_place s rows (shard c named.object named.page named.extents) good named.has_shard in
+    let found = both_hold (λ e. HasSlots (width_of s) rows c e.body) (λ e. NamesBlob sbid e.body) named.extents placed.slots named.names in
+    held_there (width_of s) rows c sbid found.0.body found.1 found.2
 
 module _ (s : Super) (rows : Rows) (good : NoBadRow s rows) (sbid : ℕ) where
   abbrev w : Width

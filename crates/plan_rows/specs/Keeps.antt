@@ -11,17 +11,18 @@ use Rattle.store_image.specs.Prelude.{HasPage, NoBadRow, IsDataUnit, IsOwned, Is
 use Rattle.plan_rows.specs.declared.plan.FreshUnit.{FreshUnit}
 use Rattle.plan_rows.specs.declared.plan.Plan.{Plan}
 use Rattle.plan_rows.specs.Plans.{HoldsFresh, StandsOnce, fresh_units}
-use Rattle.plan_rows.specs.Names.{AreAtHome, AreAtHomeIn, AgreeOn, AreOf}
+use Rattle.plan_rows.specs.Names.{AreAtHome, AreAtHomeIn, AreMadeAt, AgreeOn, AgreeOnBlobs, AreOf}
 
 -- no row is bad, and the bitmap is exactly the owned units and what is leaked
 pub record IsGood (s : Super) (rows : Rows) : Type 0 where
   pub good : NoBadRow s rows
   pub exact : IsExactAs (width_of s) rows rows
 
--- Rows in which all that the plan looked at is as in those that it was made over: the rows of its collections and of their blobs; and none of
--- the units that it takes is marked.
+-- Rows in which all that the plan looked at is as in those that it was made over: the rows of its collections and of their blobs, and of the
+-- blobs that it changes or makes; and none of the units that it takes is marked.
 pub record Suits (w : Width) (names : List (List ℕ)) (view : Rows) (plan : Plan) (rows : Rows) : Type 0 where
   pub agree : AgreeOn w names rows view
+  pub blobs : AgreeOnBlobs plan.ops rows view
   pub unmarked : AllByRecursion (λ u. ¬ IsMarked rows u) (fresh_units plan)
 
 -- What a plan changes of the owned units: it gives owners to those that it takes, and leaves those that it releases, each once, without any.
@@ -39,17 +40,18 @@ pub record AreWhole (s : Super) (fresh : List FreshUnit) : Type 0 where
   pub whole : AllByRecursion (λ f. length f.bytes ≡ 4096) fresh
 
 -- Its operations are on rows of its collections, on those of blobs at home there, and on the bits of its units, and have spellings. Over all rows
--- that suit it, of which none is bad and whose bitmap is exact, it leaves such rows, in which blobs are at home where they were, and it owns its
--- units then.
+-- that suit it, of which none is bad and whose bitmap is exact, it leaves such rows, in which blobs are at home where they were, or where it makes
+-- them; and it owns its units then.
 pub record PlanKeeps (s : Super) (names : List (List ℕ)) (view : Rows) (plan : Plan) : Type 0 where
-  pub of : (home : ℕ → List ℕ) → AreAtHomeIn (width_of s) home names view → AreOf home names (fresh_units plan) plan.released plan.ops
+  pub of : (home : ℕ → List ℕ) → AreAtHomeIn (width_of s) home names view → AreMadeAt home names view plan.ops
+      → AreOf home names (fresh_units plan) plan.released plan.ops
   pub fit : AllFit plan.ops
   pub fresh : AreWhole s plan.fresh
   pub ascend : Ascends (fresh_units plan)
   pub good : (rows : Rows) → Suits (width_of s) names view plan rows → IsGood s rows → NoBadRow s (rows_after rows plan.ops)
   pub exact : (rows : Rows) → Suits (width_of s) names view plan rows → IsGood s rows → IsExactAs (width_of s) rows (rows_after rows plan.ops)
   pub home : (home : ℕ → List ℕ) (rows : Rows) → Suits (width_of s) names view plan rows → IsGood s rows → AreAtHome (width_of s) home rows
-      → AreAtHome (width_of s) home (rows_after rows plan.ops)
+      → AreMadeAt home names view plan.ops → AreAtHome (width_of s) home (rows_after rows plan.ops)
   pub owns : (rows : Rows) → Suits (width_of s) names view plan rows → IsGood s rows → OwnsItsUnits (width_of s) rows (rows_after rows plan.ops) plan
 
 -- the units whose old bytes are in the pages that it writes hold these

@@ -1,5 +1,5 @@
 -- Rows by the collections that they are of, and operations on rows of some collections.
-use Rattle.std.specs.Prelude.{◌≡◌, ◌⊎◌, ℕ, ◌<◌, ◌^◌, true, List, ◌++◌}
+use Rattle.std.specs.Prelude.{◌≡◌, ◌⊎◌, ℕ, ◌<◌, ◌^◌, true, List, ◌++◌, None, Any}
 use Rattle.std.specs.List.{AllByRecursion}
 use Rattle.std.specs.FinMap as finite
 use Rattle.unit_fields.specs.Prelude.{IsCollName}
@@ -8,7 +8,7 @@ use Rattle.meta_rows.specs.Prelude.{Rows, key_of}
 use Rattle.meta_rows.specs.declared.row_op.RowOp.{RowOp}
 use Rattle.object_model.specs.Prelude.{is_named}
 use Rattle.row_format.specs.Prelude.{object_key, coll_key, shared_key}
-use Rattle.store_image.specs.Prelude.{IsNamedBy}
+use Rattle.store_image.specs.Prelude.{IsNamedBy, HasKey}
 use Rattle.plan_rows.specs.Layouts.{TurnsBits}
 
 -- the kinds of an object's rows: its onode and its shards, its attributes, its header and omap
@@ -42,6 +42,23 @@ pub record IsKeyOfBlob (home : ℕ → List ℕ) (names : List (List ℕ)) (key 
   pub among : is_named (home sbid) names ≡ true
   pub is : key ≡ shared_key sbid
 
+-- the number is above those of all blobs that have rows
+abbrev pub IsAboveBlobs : ℕ → Rows → Type 0
+IsAboveBlobs next rows = (sbid : ℕ) → sbid < 2 ^ 64 → HasKey rows (shared_key sbid) → sbid < next
+
+-- the operations have one on the row of this blob
+abbrev pub ChangesBlob : List RowOp → ℕ → Type 0
+ChangesBlob ops sbid = (sbid < 2 ^ 64) × Any (λ op. key_of op ≡ shared_key sbid) ops
+
+-- the operations make the blob: they have one on its row, which isn't among the rows
+pub record MakesBlob (rows : Rows) (ops : List RowOp) (sbid : ℕ) : Type 0 where
+  pub changes : ChangesBlob ops sbid
+  pub new : finite.get rows (shared_key sbid) ≡ None
+
+-- the home of each blob that they make is one of the collections
+abbrev pub AreMadeAt : (ℕ → List ℕ) → List (List ℕ) → Rows → List RowOp → Type 0
+AreMadeAt home names rows ops = (sbid : ℕ) → MakesBlob rows ops sbid → is_named (home sbid) names ≡ true
+
 -- ---- rows and operations
 
 -- the rows of the collections, and those of the blobs that their shards name, are the same in both
@@ -49,6 +66,10 @@ pub record AgreeOn (w : Width) (names : List (List ℕ)) (rows other : Rows) : T
   pub own : (key : List ℕ) → IsKeyOfSome names key → finite.get rows key ≡ finite.get other key
   pub blobs : (c : List ℕ) (sbid : ℕ) → is_named c names ≡ true → IsNamedBy w rows c sbid
       → finite.get rows (shared_key sbid) ≡ finite.get other (shared_key sbid)
+
+-- the rows of the blobs that the operations change are the same in both
+abbrev pub AgreeOnBlobs : List RowOp → Rows → Rows → Type 0
+AgreeOnBlobs ops rows other = (sbid : ℕ) → ChangesBlob ops sbid → finite.get rows (shared_key sbid) ≡ finite.get other (shared_key sbid)
 
 -- Operations on rows of these collections and of blobs at home there, and behind them those that turn the bits of the units that are taken and
 -- of those that are released.

@@ -6,5 +6,5 @@ pub use Rattle.plan_rows.specs.Values.{ValueKey, attribute, header, pair, value_
 pub use Rattle.plan_rows.specs.Blobs.{indexes_of, times_in, lowered, with_one_less, with_less, any_named, blob_value, blob_after, IsKeyOfSlot, IsFreed}
 pub use Rattle.plan_rows.specs.Plans.{IsKnownOp, object_of, HasNames, AreFreeOver, HoldsFresh, IsFreshUnit, StandsOnce, fresh_units}
 pub use Rattle.plan_rows.specs.Asks.{IsOnColl, AreReadAt}
-pub use Rattle.plan_rows.specs.Names.{IsObjectKind, IsKeyIn, IsKeyOfSome, AreAtHome, AreAtHomeIn, IsKeyOfBlob, AgreeOn, AreOf, HaveNoneInCommon}
+pub use Rattle.plan_rows.specs.Names.{IsObjectKind, IsKeyIn, IsKeyOfSome, AreAtHome, AreAtHomeIn, IsKeyOfBlob, IsAboveBlobs, ChangesBlob, MakesBlob, AreMadeAt, AgreeOn, AgreeOnBlobs, AreOf, HaveNoneInCommon}
 pub use Rattle.plan_rows.specs.Keeps.{IsGood, Suits, OwnsItsUnits, AreWhole, PlanKeeps, HoldsRead, PlanMakes}

@@ -60,4 +60,6 @@ pub struct Plan {
     pub released: Items<UnitNo>,
     /// The units whose old bytes were read for it, in the order of their pages.
     pub read: Items<ReadUnit>,
+    /// How many shared blobs it makes. They have the store's next numbers, one after the other.
+    pub new_blobs: u64,
 }

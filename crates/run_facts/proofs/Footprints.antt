@@ -41,7 +41,7 @@ accept_footprint client line change s d s' d' same known does =
       device = rests d d' same;
       placed = tt;
       counted = omega arith;
-      rows = rows.joins (intent_of x)
+      rows = rows.joins (intent_of x) does.plan.new_blobs
           (ap (λ (is : List Intent). (let t : State = accepted_with client line change does.plan s in record (rows_part t) { intents = is }))
           (intents_push front s.pending x));
       units = units.same tt (ap (λ (fs : List FreshUnit). record (data_part s) { given = fs }) (given_push front s.pending x refl));

@@ -30,6 +30,7 @@ waited_keeps s d d' sound a (inr more) = record {
   events = a.events;
   numbers = a.numbers;
   epochs = a.epochs;
+  sbids = a.sbids;
 }
 
 -- ---- what is in flight is known
@@ -86,6 +87,7 @@ down_keeps s d s' d' sound a gone =
       events = paid_within s.events (s.events + 1) (work_left s) (work_left u) (budget s) a.events falls (omega arith);
       numbers = paid_within s.log.number s.log.number (work_left s) (work_left u) (budget s) a.numbers falls (omega arith);
       epochs = paid_within s.log.sup.epoch s.log.sup.epoch (work_left s) (work_left u) (budget s) a.epochs falls (omega arith);
+      sbids = a.sbids;
     })
 
 -- ---- a call that leaves the kernel down

@@ -15,8 +15,8 @@ use Rattle.run_facts.proofs.Footprints.{intents_push, footprint_of}
 use Rattle.run_facts.proofs.RowsKept.{rows_go}
 use Rattle.run_facts.proofs.RoomKept.{room_go, within_go, space_go, super_go, units_go, half_go}
 use Rattle.run_facts.proofs.BookKept.{book_go, acked_in_turn}
-use Rattle.run_facts.proofs.RowsSteps.{MayAll, may_all}
-use Rattle.run_facts.proofs.RowsAccepted.{accepted_joins, accepted_record, accepted_few}
+use Rattle.run_facts.proofs.RowsSteps.{MayAll, next_go, none_joins, may_all}
+use Rattle.run_facts.proofs.RowsAccepted.{accepted_takes, accepted_numbers, accepted_joins, accepted_record, accepted_few}
 use Rattle.run_facts.proofs.RowsOpened.{opened_rows}
 
 -- ---- steps
@@ -51,6 +51,8 @@ paid_keeps step s d s' d' kept sound up ready does paid matches = record {
         (paid_within s.log.number s'.log.number (work_left s) (work_left s') (budget s) a.numbers paid.falls paid.near.number);
     epochs = subst (λ (es : List Entry). s'.log.sup.epoch + work_left s' ≤ 2 ^ 61 + check_most + entry_work * length es) (sym paid.near.entries)
         (paid_within s.log.sup.epoch s'.log.sup.epoch (work_left s) (work_left s') (budget s) a.epochs paid.falls paid.near.epoch);
+    sbids = subst (λ n. n ≤ 2 ^ 62)
+        (sym (next_go (rows_part s) (rows_part s') f.rows (none_joins s d s' d' paid.near.entries f.rows f.book f.caused))) a.sbids;
   };
   up = λ _. record {
     flights = matches;
@@ -129,6 +131,7 @@ entered_kept s d client line command a kept up below =
         events = more_within s.events (work_left s) (work_left s) (length s.book.entries) _ was.events (most (work_left s)) entries;
         numbers = more_within s.log.number (work_left s) (work_left s) (length s.book.entries) _ was.numbers (most (work_left s)) entries;
         epochs = more_within s.log.sup.epoch (work_left s) (work_left s) (length s.book.entries) _ was.epochs (most (work_left s)) entries;
+        sbids = was.sbids;
       };
       up = λ _. record {
         flights = one_more_entry client line command a s d.flights (kept.up up).flights;
@@ -147,7 +150,7 @@ entered_kept s d client line command a kept up below =
 -- one more joins the rows
 joined_rows : (s : State) (client line : ℕ) (change : Change) (plan : Plan)
     → rows_part (accepted_with client line change plan s)
-    ≡ with_accepted (intent_of (context_of (length s.book.entries) change s.log plan)) (rows_part s)
+    ≡ with_accepted (intent_of (context_of (length s.book.entries) change s.log plan)) plan.new_blobs (rows_part s)
 joined_rows s client line change plan =
     ap (λ (is : List Intent). (let t : State = accepted_with client line change plan s in record (rows_part t) { intents = is }))
     (intents_push (option_map_or (λ (b : Batch). b.contexts) s.batch []) s.pending (context_of (length s.book.entries) change s.log plan))
@@ -179,7 +182,7 @@ module _ (keep : PlansKeep) (s : State) (d : Disk) (client line : ℕ) (change :
   waits = length-append s.pending (x ∷ [])
 
   abbrev goes : rows.RowsGo (rows_part s) (rows_part t)
-  goes = rows.joins (intent_of x) (joined_rows s client line change does.plan)
+  goes = rows.joins (intent_of x) does.plan.new_blobs (joined_rows s client line change does.plan)
 
   -- the work that it adds
   more : work_left t ≤ work_left s + entry_work
@@ -224,10 +227,13 @@ module _ (keep : PlansKeep) (s : State) (d : Disk) (client line : ℕ) (change :
       events = more_within s.events (work_left s) (work_left t) (length s.book.entries) _ a.events more entries;
       numbers = more_within s.log.number (work_left s) (work_left t) (length s.book.entries) _ a.numbers more entries;
       epochs = more_within s.log.sup.epoch (work_left s) (work_left t) (length s.book.entries) _ a.epochs more entries;
+      sbids = (accepted_takes keep s d client line change s' a.limits a.space were known does).low;
     };
     up = λ _. record {
       flights = one_more_waits client line change does.plan s d.flights (kept.up up).flights;
-      rows = rows_go (rows_part s) (rows_part t) goes a.limits a.space (accepted_joins keep s d client line change s' a.limits a.space were known does) were;
+      rows = rows_go (rows_part s) (rows_part t) goes a.limits a.space
+          (accepted_joins keep s d client line change s' a.limits a.space were known does,
+          λ sbid made. (accepted_numbers keep s d client line change s' a.limits a.space were known does sbid made).1) were;
       room = room_go (rows_part s) (rows_part t) goes (fits_record, room) (kept.up up).room;
       within = within_go (rows_part s) (rows_part t) goes (fits_record, room) were.submitted (kept.up up).room (kept.up up).within;
       stale = (kept.up up).stale;
@@ -258,9 +264,9 @@ kept_read s s' d client line read kept (inr away) = subst (λ (t : State). IsKep
 
 -- ---- opening
 
-pub kept_open : (f : Found) (space : Space) (events : ℕ) (d : Disk) → IsSound d → d.flights ≡ [] → events ≤ 2 ^ 61 → IsOpenable f space d.units
-    → IsKept (opened f space events) d
-kept_open f space events d sound idle few is = record {
+pub kept_open : (f : Found) (space : Space) (next events : ℕ) (d : Disk) → IsSound d → d.flights ≡ [] → events ≤ 2 ^ 61
+    → IsOpenable f space next d.units → IsKept (opened f space next events) d
+kept_open f space next events d sound idle few is = record {
   always = record {
     device = sound;
     limits = is.limits;
@@ -272,6 +278,7 @@ kept_open f space events d sound idle few is = record {
     events = first (check_due t.log) events (due_most t.log) few;
     numbers = first (check_due t.log) f.number (due_most t.log) is.number;
     epochs = first (check_due t.log) f.sup.epoch (due_most t.log) is.epoch;
+    sbids = is.sbids;
   };
   up = λ _. record {
     flights = record {
@@ -280,17 +287,17 @@ kept_open f space events d sound idle few is = record {
       batch = (refl, refl);
       switch = refl;
       alone = tt;
-      touches = subst (λ (fs : List Flight). AreOfJobs (opened f space events).log [] [] fs) (sym idle) tt;
+      touches = subst (λ (fs : List Flight). AreOfJobs (opened f space next events).log [] [] fs) (sym idle) tt;
     };
-    rows = opened_rows f space events d.units is;
+    rows = opened_rows f space next events d.units is;
     room = record { fits = tt; reserved = refl; room = behind (rows_units f.rows) f.tail f.sup.half is.within is.tail; tail = is.tail; spelled = is.spelled };
-    within = within_opened (rows_part (opened f space events)) refl is.within;
+    within = within_opened (rows_part (opened f space next events)) refl is.within;
     stale = is.stale;
   };
 }
   where
     t : State
-    t = opened f space events
+    t = opened f space next events
 
     first : (due n : ℕ) → due ≤ check_most → n ≤ 2 ^ 61 → n + (0 + 0 + 0 + due + (0 - 0 - 0)) ≤ 2 ^ 61 + check_most + entry_work * 0
     first due n most low = omega (arith, most, low)

@@ -12,8 +12,8 @@ pub use Rattle.run_facts.proofs.BatchFootprints.{part_taken}
 pub use Rattle.run_facts.proofs.Footprints.{footprint_of}
 pub use Rattle.run_facts.proofs.RoomKept.{needs_join}
 pub use Rattle.run_facts.proofs.RowsSteps.{IsNoJoin, none_joins}
-pub use Rattle.run_facts.proofs.RowsAccepted.{submitted_good, submitted_free, accepted_keeps, accepted_makes, accepted_takes, accepted_joins}
-pub use Rattle.run_facts.proofs.RowsNow.{kept_rows, kept_submitted, kept_free, kept_space, submitted_short}
+pub use Rattle.run_facts.proofs.RowsAccepted.{submitted_good, submitted_free, submitted_above, accepted_keeps, accepted_makes, accepted_takes, accepted_joins}
+pub use Rattle.run_facts.proofs.RowsNow.{kept_rows, kept_submitted, kept_above, kept_free, kept_space, submitted_short}
 pub use Rattle.run_facts.proofs.Memory.{bytes_both, none_of_bytes, memory_whole, page_on_data, readable_now, fresh_not_in_memory, memory_accepted, memory_given, memory_reaped, memory_batch, memory_taken, memory_committed}
 pub use Rattle.run_facts.proofs.Keeping.{kept_leaves, work_falls, down_call}
 pub use Rattle.run_facts.proofs.Kept.{kept_step, kept_accept, kept_refuse, kept_answer, kept_open}

@@ -51,12 +51,12 @@ spelled_by (x ∷ xs) all = all_join FitsRowOp x.ops (ops_by xs) (all.0).fit (sp
 
 -- one that joins has room for its record
 abbrev pub HasRoomTo : (p : RowsPart) {q : RowsPart} → RowsGo p q → Type 0
-HasRoomTo p (rows.joins x is) = FitsRecord x × (rows_units p.rows + (p.reserved + x.need) ≤ p.sup.half)
+HasRoomTo p (rows.joins x more is) = FitsRecord x × (rows_units p.rows + (p.reserved + x.need) ≤ p.sup.half)
 HasRoomTo p other = Unit {0}
 
 pub room_go : (p q : RowsPart) (goes : RowsGo p q) → HasRoomTo p goes → HasRoom p → HasRoom q
 room_go p q (rows.same is) to has = subst HasRoom (sym is) has
-room_go p q (rows.joins x is) to has = subst HasRoom (sym is) (record {
+room_go p q (rows.joins x more is) to has = subst HasRoom (sym is) (record {
   fits = all_join FitsRecord p.intents (x ∷ []) has.fits (to.0, tt);
   reserved = omega (arith, has.reserved, needs_join p.intents (x ∷ []));
   room = to.1;
@@ -111,7 +111,7 @@ enough (x ∷ xs) all = (takes x all.0, enough xs all.1)
 pub within_go : (p q : RowsPart) (goes : RowsGo p q) → HasRoomTo p goes → p.submitted ≡ rows_by p.rows p.intents → HasRoom p → AreRowsWithin p
     → AreRowsWithin q
 within_go p q (rows.same is) to are has within = subst AreRowsWithin (sym is) within
-within_go p q (rows.joins x is) to are has within = subst AreRowsWithin (sym is) (within_joined p x (takes x to.0) within)
+within_go p q (rows.joins x more is) to are has within = subst AreRowsWithin (sym is) (within_joined p x more (takes x to.0) within)
 within_go p q (rows.reorders later complete is) to are has within =
     subst AreRowsWithin (sym is) (record { committed = within.committed; submitted = within.submitted })
 within_go p q (rows.applies number front back both fits is) to are has within = subst AreRowsWithin (sym is)
@@ -123,7 +123,7 @@ within_go p q (rows.switches number limits is) to are has within =
 -- which units are those of the store isn't changed
 pub space_go : (p q : RowsPart) → RowsGo p q → IsSpaceOf p.sup p.space → IsSpaceOf q.sup q.space
 space_go p q (rows.same is) has = subst (λ (r : RowsPart). IsSpaceOf r.sup r.space) (sym is) has
-space_go p q (rows.joins x is) has =
+space_go p q (rows.joins x more is) has =
     subst (λ (r : RowsPart). IsSpaceOf r.sup r.space) (sym is) (space_taken p.sup p.space (map (λ f. f.unit) x.fresh) has)
 space_go p q (rows.reorders later complete is) has = subst (λ (r : RowsPart). IsSpaceOf r.sup r.space) (sym is) has
 space_go p q (rows.applies number front back both fits is) has =
@@ -134,21 +134,21 @@ space_go p q (rows.switches number limits is) has =
 -- nor how the store is divided, and its superblock has its limits
 pub super_go : (p q : RowsPart) → RowsGo p q → IsSuper p.sup → IsSuper q.sup
 super_go p q (rows.same is) has = subst (λ (r : RowsPart). IsSuper r.sup) (sym is) has
-super_go p q (rows.joins x is) has = subst (λ (r : RowsPart). IsSuper r.sup) (sym is) has
+super_go p q (rows.joins x more is) has = subst (λ (r : RowsPart). IsSuper r.sup) (sym is) has
 super_go p q (rows.reorders later complete is) has = subst (λ (r : RowsPart). IsSuper r.sup) (sym is) has
 super_go p q (rows.applies number front back both fits is) has = subst (λ (r : RowsPart). IsSuper r.sup) (sym is) has
 super_go p q (rows.switches number limits is) has = subst (λ (r : RowsPart). IsSuper r.sup) (sym is) limits
 
 pub units_go : (p q : RowsPart) → RowsGo p q → q.sup.units ≡ p.sup.units
 units_go p q (rows.same is) = ap (λ (r : RowsPart). r.sup.units) is
-units_go p q (rows.joins x is) = ap (λ (r : RowsPart). r.sup.units) is
+units_go p q (rows.joins x more is) = ap (λ (r : RowsPart). r.sup.units) is
 units_go p q (rows.reorders later complete is) = ap (λ (r : RowsPart). r.sup.units) is
 units_go p q (rows.applies number front back both fits is) = ap (λ (r : RowsPart). r.sup.units) is
 units_go p q (rows.switches number limits is) = ap (λ (r : RowsPart). r.sup.units) is
 
 pub half_go : (p q : RowsPart) → RowsGo p q → q.sup.half ≡ p.sup.half
 half_go p q (rows.same is) = ap (λ (r : RowsPart). r.sup.half) is
-half_go p q (rows.joins x is) = ap (λ (r : RowsPart). r.sup.half) is
+half_go p q (rows.joins x more is) = ap (λ (r : RowsPart). r.sup.half) is
 half_go p q (rows.reorders later complete is) = ap (λ (r : RowsPart). r.sup.half) is
 half_go p q (rows.applies number front back both fits is) = ap (λ (r : RowsPart). r.sup.half) is
 half_go p q (rows.switches number limits is) = ap (λ (r : RowsPart). r.sup.half) is

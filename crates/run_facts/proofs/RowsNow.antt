@@ -2,15 +2,18 @@
 use Rattle.std.proofs.Common.{◌≡◌, None, ℕ, ◌+◌, ◌*◌, ◌^◌, ◌≤◌, arith}
 use Rattle.run_facts.proofs.Common.{Disk, IsGood}
 use Rattle.meta_rows.specs.Prelude.{rows_size}
-use Rattle.plan_rows.specs.Prelude.{AreFreeOver}
+use Rattle.plan_rows.specs.Prelude.{AreFreeOver, IsAboveBlobs}
 use Rattle.store_steps.specs.Prelude.{State, rows_part, rows_units}
 use Rattle.space_facts.proofs.Prelude.{rows_units-bytes}
 use Rattle.run_facts.specs.Prelude.{IsSpaceOf, AreRowsKept, IsKept}
-use Rattle.run_facts.proofs.RowsAccepted.{submitted_good, submitted_free}
+use Rattle.run_facts.proofs.RowsAccepted.{submitted_good, submitted_free, submitted_above}
 
 module _ (s : State) (d : Disk) (kept : IsKept s d) (up : s.down ≡ None) where
   pub kept_rows : AreRowsKept (rows_part s)
   kept_rows = (kept.up up).rows
+
+  pub kept_above : IsAboveBlobs s.next_sbid s.submitted
+  kept_above = submitted_above s kept.always.limits kept.always.space kept_rows
 
   pub kept_submitted : IsGood s.log.sup s.submitted
   kept_submitted = submitted_good s kept.always.limits kept.always.space kept_rows

@@ -4,7 +4,7 @@ use Rattle.block_device.specs.Prelude.{Disk, IsSound}
 use Rattle.meta_rows.specs.Prelude.{RowsFit}
 use Rattle.meta_log.specs.Prelude.{IsSuper, AreRunsFrom}
 use Rattle.unit_allocator.specs.Prelude.{Space}
-use Rattle.plan_rows.specs.Prelude.{IsGood}
+use Rattle.plan_rows.specs.Prelude.{IsGood, IsAboveBlobs}
 use Rattle.store_steps.specs.Prelude.{State, Found, SpaceIsCounted, HoldsAreCounted, rows_units, AreRowsWithin, rows_part, book_part}
 use Rattle.flight_facts.specs.Prelude.{AreFlights, FlightsMatch, budget, work_left}
 use Rattle.run_facts.specs.Space.{IsSpaceOf, AreRowsKept}
@@ -22,6 +22,7 @@ pub record IsAlwaysKept (s : State) (d : Disk) : Type 0 where
   pub events : s.events + work_left s ≤ budget s
   pub numbers : s.log.number + work_left s ≤ budget s
   pub epochs : s.log.sup.epoch + work_left s ≤ budget s
+  pub sbids : s.next_sbid ≤ 2 ^ 62
 
 -- what it keeps while it isn't
 pub record IsKeptUp (s : State) (d : Disk) : Type 0 where
@@ -35,8 +36,8 @@ pub record IsKept (s : State) (d : Disk) : Type 0 where
   pub always : IsAlwaysKept s d
   pub up : s.down ≡ None → IsKeptUp s d
 
--- What a kernel asks of the store that it is opened on, whose device has so many units.
-pub record IsOpenable (f : Found) (s : Space) (units : ℕ) : Type 0 where
+-- What a kernel asks of the store that it is opened on, whose device has so many units, with the number of its next blob.
+pub record IsOpenable (f : Found) (s : Space) (next units : ℕ) : Type 0 where
   pub limits : IsSuper f.sup
   pub units_are : f.sup.units ≡ units
   pub number : f.number ≤ 2 ^ 61
@@ -49,3 +50,5 @@ pub record IsOpenable (f : Found) (s : Space) (units : ℕ) : Type 0 where
   pub space : IsSpaceOf f.sup s
   pub counted : SpaceIsCounted f.sup f.rows [] s
   pub held : HoldsAreCounted f.sup f.rows s
+  pub above : IsAboveBlobs next f.rows
+  pub sbids : next ≤ 2 ^ 62

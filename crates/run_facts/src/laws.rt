@@ -105,8 +105,8 @@ pub fn a_choice()
 
 /// A kernel that is opened on a store with good rows keeps it from the start.
 pub fn opened_keeps()
-    ensures { (f : Found) (space : Space) (events : ℕ) (d : Disk) → IsSound d → d.flights ≡ [] → events ≤ 2 ^ 61
-        → IsOpenable f space d.units → IsKept (opened f space events) d }
+    ensures { (f : Found) (space : Space) (next events : ℕ) (d : Disk) → IsSound d → d.flights ≡ [] → events ≤ 2 ^ 61
+        → IsOpenable f space next d.units → IsKept (opened f space next events) d }
 {}
 
 /// A drained kernel that isn't down has nothing under way: no context, no batch, no switch of halves, nothing set aside in the log, nothing in flight, and

@@ -1,6 +1,8 @@
 -- A transaction that is accepted while others are under way: each is planned over the rows of every fair selection before it.
-use Rattle.std.proofs.Common.{◌≡◌, inl, inr, ℕ, ◌<◌, ◌≤◌, ◌^◌, true, List, [], ◌∷◌, ◌++◌, Contains, refl, sym, ap, subst, ◌∙◌, append-nil, append_assoc, arith}
+use Rattle.std.proofs.Common.{◌≡◌, inl, inr, ℕ, ◌<◌, ◌≤◌, ◌^◌, true, List, [], ◌∷◌, ◌++◌, Contains, Option, Some, None, refl, sym, ap, subst, ◌∙◌, append-nil, append_assoc, arith}
 use Rattle.std.specs.List.{AllByRecursion}
+use Rattle.std.specs.Prelude.{IsSome}
+use Rattle.std.specs.FinMap as finite
 use Rattle.std.proofs.lemmas.List.Elements.{filter-append}
 use Rattle.meta_rows.specs.Prelude.{Rows, rows_after}
 use Rattle.meta_log.specs.declared.slot.Super.{Super}
@@ -8,34 +10,64 @@ use Rattle.meta_log.specs.Prelude.{width_of, IsSuper}
 use Rattle.bitmap_freelist.specs.Bitmap.{AreBitmapRows}
 use Rattle.bitmap_freelist.proofs.GoodBitmaps.{bitmap_rows}
 use Rattle.store_image.specs.Prelude.{IsMarked}
-use Rattle.plan_rows.specs.Prelude.{AgreeOn, IsGood, Suits}
-use Rattle.plan_rows.proofs.Apart.{kept_apart}
+use Rattle.row_format.specs.Prelude.{shared_key}
+use Rattle.plan_rows.specs.Prelude.{AreAtHome, ChangesBlob, MakesBlob, AgreeOn, AgreeOnBlobs, IsGood, Suits}
+use Rattle.plan_rows.proofs.Homes.{named_there}
+use Rattle.plan_rows.proofs.Apart.{IsOwn, kept_apart, changed_own, blobs_apart}
 use Rattle.plan_rows.proofs.Agreeing.{agree_back, keeps_over}
 use Rattle.selections.specs.Fair.{under, IsFair, HasLast, ShareNoName}
 use Rattle.selections.proofs.Cuts.{end_cases}
 use Rattle.selections.proofs.Selecting.{fair_front, fair_all, with_last}
-use Rattle.store_steps.specs.Prelude.{Intent, names_in, is_in, plan_of, rows_by, taken_by, IsPlannedOver, EachIsPlanned, AreTakenApart, CanJoin}
+use Rattle.store_steps.specs.Prelude.{Intent, names_in, is_in, plan_of, rows_by, taken_by, IsPlannedOver, EachIsPlanned, AreTakenApart, HaveHomes, CanJoin}
 use Rattle.space_facts.proofs.Lists.{all_rest, all_join, listed_all, all_listed, in_or_not, same_ends, times, times_none, times_ascending}
-use Rattle.space_facts.proofs.Rows.{is_own, none_shared, rows_append, taken_append, IsOf, agree_by, move_last, share_none}
-use Rattle.space_facts.proofs.Selected.{units_of, taken_last, times_taken, selected_taken, plan_unmarked, keeps_on_data, small_of, home_of, at_home, planned_of, last_of, selected_of, selection_good, idle_unmarked}
+use Rattle.space_facts.proofs.Rows.{is_own, none_shared, rows_append, taken_append, IsOf, part_by, agree_by, move_last, share_none}
+use Rattle.space_facts.proofs.Making.{home_with, home_made, home_kept, of_other}
+use Rattle.space_facts.proofs.Selected.{units_of, taken_last, times_taken, selected_taken, plan_unmarked, keeps_on_data, small_of, at_home, last_of, selected_of, selection_good, idle_unmarked}
 
 none_in_front : {A : Type 0} (xs ys : List A) → xs ++ ys ≡ [] → xs ≡ []
 none_in_front [] ys e = refl
 none_in_front (x ∷ xs) ys e = absurd cc
 
 module _ (sup : Super) (rows : Rows) (xs : List Intent) (x : Intent) (limits : IsSuper sup) (good : IsGood sup rows)
-    (each : EachIsPlanned sup rows xs) (apart : AreTakenApart rows xs) (can : CanJoin sup rows xs x) where
+    (each : EachIsPlanned sup rows xs) (apart : AreTakenApart rows xs) (first : HaveHomes (width_of sup) rows xs) (can : CanJoin sup rows xs x) where
   abbrev Fair : List Intent → Type 0
   Fair some = IsFair is_in xs some
 
+  -- the blobs that it makes are at home in its collection, the others where they were
   abbrev home : ℕ → List ℕ
-  home = home_of sup rows good
+  home = home_with (rows_by rows xs) x.ops x.coll first.home
+
+  -- so are those of the others
+  all_kept : (ys : List Intent) → ((sbid : ℕ) → MakesBlob (rows_by rows xs) x.ops sbid → AllByRecursion (λ y. ¬ ChangesBlob y.ops sbid) ys)
+      → AllByRecursion (IsOf first.home) ys → AllByRecursion (IsOf home) ys
+  all_kept [] none all = tt
+  all_kept (y ∷ ys) none all = (
+    of_other first.home home (names_in y) (units_of y) y.released y.ops all.0
+        (λ sbid changes. home_kept (rows_by rows xs) x.ops x.coll first.home sbid (λ made. (none sbid made).0 changes)),
+    all_kept ys (λ sbid made. (none sbid made).1) all.1,
+  )
+
+  homes_named : AreAtHome (width_of sup) home rows
+  homes_named c sbid named = home_kept (rows_by rows xs) x.ops x.coll first.home sbid
+      (λ made. no_row (finite.get rows (shared_key sbid)) (can.unmade sbid made).0 (named_there sup rows good.good c sbid named))
+      ∙ first.named c sbid named
+    where
+      no_row : (z : Option (List ℕ)) → z ≡ None → IsSome z → ⊥
+      no_row None none some = absurd cc
+      no_row (Some v) none some = absurd cc
+
+  homes_changed : AllByRecursion (IsOf home) xs
+  homes_changed = all_kept xs (λ sbid made. (can.unmade sbid made).1) first.changed
+
+  abbrev homes : HaveHomes (width_of sup) rows xs
+  homes = record { home = home; named = homes_named; changed = homes_changed }
 
   of_x : IsOf home x
-  of_x = planned_of sup rows xs good each xs x (fair_all is_in xs) can.keeps
+  of_x = can.keeps.of home (λ c sbid among named. at_home sup rows xs good each homes xs (fair_all is_in xs) c sbid named)
+      (λ sbid made. ap (λ c. is_in c x) (home_made (rows_by rows xs) x.ops x.coll first.home sbid made) ∙ is_own x)
 
   of_all : AllByRecursion (IsOf home) xs
-  of_all = selected_of sup rows xs good each xs (fair_all is_in xs)
+  of_all = homes.changed
 
   not_taken : (unit : ℕ) → Contains (units_of x) unit → ¬ Contains (taken_by xs) unit
   not_taken unit c = listed_all (λ u. ¬ Contains (taken_by xs) u) (units_of x) unit can.untaken c
@@ -53,8 +85,13 @@ module _ (sup : Super) (rows : Rows) (xs : List Intent) (x : Intent) (limits : I
   suits_there : (some : List Intent) → Fair some → ((n : List ℕ) → is_in n x ≡ true → under is_in n some ≡ under is_in n xs)
       → Suits (width_of sup) (names_in x) (rows_by rows xs) (plan_of x) (rows_by rows some)
   suits_there some fair whole = record {
-    agree = agree_by (width_of sup) home (names_in x) rows some xs of_x.named (selected_of sup rows xs good each some fair) of_all
-        (at_home sup rows xs good each some fair) whole;
+    agree = agree_by (width_of sup) home (names_in x) rows some xs of_x.named (selected_of sup rows xs good each homes some fair) of_all
+        (at_home sup rows xs good each homes some fair) whole;
+    blobs = λ sbid changes.
+        let own : IsOwn home (x.coll ∷ []) (shared_key sbid) = changed_own home (names_in x) (units_of x) x.released x.ops of_x sbid changes in
+        part_by home x.coll (shared_key sbid) of_x.named.0 own rows some (selected_of sup rows xs good each homes some fair)
+        ∙ ap (λ l. finite.get (rows_by rows l) (shared_key sbid)) (whole x.coll (is_own x))
+        ∙ sym (part_by home x.coll (shared_key sbid) of_x.named.0 own rows xs of_all);
     unmarked = all_listed (λ u. ¬ IsMarked (rows_by rows some) u) (units_of x) (λ u c. stays_unmarked some fair u c);
   }
 
@@ -65,7 +102,8 @@ module _ (sup : Super) (rows : Rows) (xs : List Intent) (x : Intent) (limits : I
       let suits : Suits (width_of sup) (names_in x) (rows_by rows xs) (plan_of x) (rows_by rows some) = suits_there some fair whole in
       record {
         keeps = keeps_over sup (names_in x) (rows_by rows xs) (rows_by rows some) (plan_of x)
-            (agree_back (width_of sup) (names_in x) (rows_by rows some) (rows_by rows xs) suits.agree) can.keeps;
+            (agree_back (width_of sup) (names_in x) (rows_by rows some) (rows_by rows xs) suits.agree)
+            (λ sbid changes. sym (suits.blobs sbid changes)) can.keeps;
         unmarked = suits.unmarked;
       }
 
@@ -81,7 +119,7 @@ module _ (sup : Super) (rows : Rows) (xs : List Intent) (x : Intent) (limits : I
     joined_last =
         let table : AreBitmapRows (rows_by rows front) =
         bitmap_rows sup (rows_by rows front) (selection_good sup rows xs good each front (fair_front is_in xs front back rest)).good in
-        let of_back : AllByRecursion (IsOf home) back = all_rest (IsOf home) front back (selected_of sup rows xs good each (front ++ back) rest) in
+        let of_back : AllByRecursion (IsOf home) back = all_rest (IsOf home) front back (selected_of sup rows xs good each homes (front ++ back) rest) in
         rows_append rows front (x ∷ back) ∙ move_last home (rows_by rows front) x back of_x of_back (share_none x back none) table
         ∙ ap (λ r. rows_after r x.ops) (sym (rows_append rows front back))
 
@@ -120,12 +158,16 @@ module _ (sup : Super) (rows : Rows) (xs : List Intent) (x : Intent) (limits : I
     agree_then : AgreeOn (width_of sup) (names_in y) before after
     agree_then = agree_back (width_of sup) (names_in y) after before
         (kept_apart (width_of sup) home (names_in x) (names_in y) (units_of x) x.released before x.ops
-        (at_home sup rows xs good each (front ++ back) rest) of_x (last_of sup rows xs good each (front ++ back) y fair).named
+        (at_home sup rows xs good each homes (front ++ back) rest) of_x (last_of sup rows xs good each homes (front ++ back) y fair).named
         (none_shared x y share_last))
+
+    blobs_then : AgreeOnBlobs y.ops before after
+    blobs_then sbid changes = sym (blobs_apart home (names_in x) (names_in y) (units_of x) x.released (units_of y) y.released before x.ops y.ops of_x
+        (last_of sup rows xs good each homes (front ++ back) y fair) (none_shared x y share_last) sbid changes)
 
     behind_it : IsPlannedOver sup (rows_by rows (front ++ x ∷ back)) y
     behind_it = subst (λ r. IsPlannedOver sup r y) (sym (joined_last front back rest whole none_back)) (record {
-      keeps = keeps_over sup (names_in y) before after (plan_of y) agree_then py.keeps;
+      keeps = keeps_over sup (names_in y) before after (plan_of y) agree_then blobs_then py.keeps;
       unmarked = all_listed (λ u. ¬ IsMarked after u) (units_of y) unmarked_then;
     })
 
@@ -181,3 +223,6 @@ module _ (sup : Super) (rows : Rows) (xs : List Intent) (x : Intent) (limits : I
         )
         | inr out ↦ omega (arith, times_taken xs x unit, times_none unit (units_of x) out, apart.apart unit)
       ]
+
+  pub homes_joined : HaveHomes (width_of sup) rows (xs ++ x ∷ [])
+  homes_joined = record { home = home; named = homes.named; changed = all_join (IsOf home) xs (x ∷ []) homes.changed (of_x, tt) }

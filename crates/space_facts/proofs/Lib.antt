@@ -1,5 +1,6 @@
 pub mod Lists
 pub mod Rows
+pub mod Making
 pub mod Selected
 pub mod Joining
 pub mod Moving

@@ -8,21 +8,27 @@ use Rattle.meta_log.specs.Prelude.{width_of, IsSuper}
 use Rattle.bitmap_freelist.specs.Bitmap.{AreBitmapRows}
 use Rattle.bitmap_freelist.proofs.GoodBitmaps.{bitmap_rows}
 use Rattle.store_image.specs.Prelude.{IsMarked}
-use Rattle.plan_rows.specs.Prelude.{IsGood}
+use Rattle.unit_fields.specs.declared.width.Width.{Width}
+use Rattle.std.specs.List.{AllByRecursion}
+use Rattle.plan_rows.specs.Prelude.{ChangesBlob, IsGood}
+use Rattle.plan_rows.proofs.Homes.{have_homes}
 use Rattle.selections.specs.Fair.{under, IsFair, IsComplete}
 use Rattle.selections.proofs.Cuts.{not_empty}
 use Rattle.selections.proofs.Order.{moved, fold_alike}
-use Rattle.selections.proofs.Selecting.{fair_front, fair_all, fair_among, fair_behind, complete_is_fair, fair_none}
-use Rattle.store_steps.specs.Prelude.{Intent, is_in, rows_by, taken_by, IsPlannedOver, EachIsPlanned, AreTakenApart}
+use Rattle.selections.proofs.Selecting.{fair_front, fair_all, fair_among, fair_behind, complete_is_fair, fair_none, all_selected}
+use Rattle.store_steps.specs.Prelude.{Intent, is_in, rows_by, taken_by, IsPlannedOver, EachIsPlanned, AreTakenApart, HaveHomes, AreBlobsBelow}
 use Rattle.space_facts.specs.Owning.{OwnTheirUnits}
-use Rattle.space_facts.proofs.Lists.{all_listed, listed_all, times_some}
+use Rattle.space_facts.proofs.Lists.{all_rest, all_listed, listed_all, times_some}
 use Rattle.space_facts.proofs.Rows.{each_named, rows_append, taken_append, IsOf, intents_change_places, table_stays}
-use Rattle.space_facts.proofs.Selected.{times_joined, selected_times, selected_taken, small_of, home_of, selected_of, selected_on_data, selection_good, selection_exact, selection_owns}
+use Rattle.space_facts.proofs.Selected.{times_joined, selected_times, selected_taken, small_of, at_home, selected_on_data, selection_good, selection_exact, selection_owns}
 
 -- ---- nothing is under way
 
 pub each_none : (sup : Super) (rows : Rows) → EachIsPlanned sup rows []
 each_none sup rows some x fair = absurd (not_empty some x (fair_none is_in each_named (some ++ x ∷ []) fair))
+
+pub homes_none : (sup : Super) (rows : Rows) → IsGood sup rows → HaveHomes (width_of sup) rows []
+homes_none sup rows good = let have = have_homes sup rows good.good in record { home = have.0; named = have.1; changed = tt }
 
 pub apart_none : (rows : Rows) → AreTakenApart rows []
 apart_none rows = record { unmarked = tt; apart = λ unit. omega arith }
@@ -36,15 +42,32 @@ as_fold : (rows : Rows) (xs : List Intent) → rows_by rows xs ≡ fold (λ r x.
 as_fold rows [] = refl
 as_fold rows (x ∷ xs) = as_fold (rows_after rows x.ops) xs
 
-pub rows_alike : (sup : Super) (rows : Rows) (xs ys : List Intent) → IsComplete is_in xs ys → IsGood sup rows → EachIsPlanned sup rows xs
+changed_alike : (w : Width) (rows : Rows) (xs ys : List Intent) → IsComplete is_in xs ys → (homes : HaveHomes w rows xs)
+    → AllByRecursion (IsOf homes.home) ys
+changed_alike w rows xs ys same homes =
+    all_selected is_in each_named (IsOf homes.home) xs ys (complete_is_fair is_in xs ys same) homes.changed
+
+pub homes_alike : (w : Width) (rows : Rows) (xs ys : List Intent) → IsComplete is_in xs ys → HaveHomes w rows xs → HaveHomes w rows ys
+homes_alike w rows xs ys same homes = record {
+  home = homes.home;
+  named = homes.named;
+  changed = changed_alike w rows xs ys same homes;
+}
+
+pub below_alike : (next : ℕ) (rows : Rows) (xs ys : List Intent) → IsComplete is_in xs ys → AreBlobsBelow next rows xs → AreBlobsBelow next rows ys
+below_alike next rows xs ys same below = record {
+  held = below.held;
+  changed = all_selected is_in each_named (λ x. (sbid : ℕ) → ChangesBlob x.ops sbid → sbid < next) xs ys (complete_is_fair is_in xs ys same) below.changed;
+}
+
+pub rows_alike : (sup : Super) (rows : Rows) (xs ys : List Intent) → IsComplete is_in xs ys → IsGood sup rows → HaveHomes (width_of sup) rows xs
     → rows_by rows xs ≡ rows_by rows ys
-rows_alike sup rows xs ys same good each =
+rows_alike sup rows xs ys same good homes =
     as_fold rows xs
-    ∙ fold_alike is_in (λ r x. rows_after r x.ops) AreBitmapRows (IsOf (home_of sup rows good))
-    (λ r x of table. table_stays (home_of sup rows good) r x of table)
-    (λ r x y of_x of_y table share. sym (intents_change_places (home_of sup rows good) r x y of_x of_y table share)) each_named rows xs ys
-    (selected_of sup rows xs good each xs (fair_all is_in xs))
-    (selected_of sup rows ys good (each_alike sup rows xs ys same each) ys (fair_all is_in ys)) (bitmap_rows sup rows good.good) (λ n. sym (same n))
+    ∙ fold_alike is_in (λ r x. rows_after r x.ops) AreBitmapRows (IsOf homes.home)
+    (λ r x of table. table_stays homes.home r x of table)
+    (λ r x y of_x of_y table share. sym (intents_change_places homes.home r x y of_x of_y table share)) each_named rows xs ys
+    homes.changed (changed_alike (width_of sup) rows xs ys same homes) (bitmap_rows sup rows good.good) (λ n. sym (same n))
     ∙ sym (as_fold rows ys)
 
 pub apart_alike : (rows : Rows) (xs ys : List Intent) → IsComplete is_in xs ys → AreTakenApart rows xs → AreTakenApart rows ys
@@ -77,6 +100,13 @@ module _ (sup : Super) (rows : Rows) (batch pending : List Intent) (good : IsGoo
 
   pub good_committed : IsGood sup (rows_by rows batch)
   good_committed = selection_good sup rows (batch ++ pending) good each batch batch_fair
+
+  pub homes_committed : HaveHomes (width_of sup) rows (batch ++ pending) → HaveHomes (width_of sup) (rows_by rows batch) pending
+  homes_committed homes = record {
+    home = homes.home;
+    named = at_home sup rows (batch ++ pending) good each homes batch batch_fair;
+    changed = all_rest (IsOf homes.home) batch pending homes.changed;
+  }
 
   module _ (apart : AreTakenApart rows (batch ++ pending)) where
     pub in_batch : (unit : ℕ) → Contains (taken_by batch) unit → Contains (taken_by (batch ++ pending)) unit

@@ -71,7 +71,7 @@ other_leaves home c key rows x named in_c of other =
     apart d in_x is = differ (is_in c x) (subst (λ n. is_in n x ≡ true) (same_name d c is) in_x) other
 
 -- they are made by the intents in it
-part_by : (home : ℕ → List ℕ) (c key : List ℕ) → IsCollName c → IsOwn home (c ∷ []) key → (rows : Rows) (xs : List Intent)
+pub part_by : (home : ℕ → List ℕ) (c key : List ℕ) → IsCollName c → IsOwn home (c ∷ []) key → (rows : Rows) (xs : List Intent)
     → AllByRecursion (IsOf home) xs → finite.get (rows_by rows xs) key ≡ finite.get (rows_by rows (under is_in c xs)) key
 part_by home c key named in_c rows [] all = refl
 part_by home c key named in_c rows (x ∷ xs) all = by (is_in c x) refl (part_by home c key named in_c (rows_after rows x.ops) xs all.1)

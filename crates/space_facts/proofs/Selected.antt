@@ -1,5 +1,5 @@
 -- The rows of a fair selection: they are good, and owned are the units that were and those that were taken, but for the released ones.
-use Rattle.std.proofs.Common.{◌≡◌, ◌⊎◌, inl, inr, ℕ, ◌+◌, ◌<◌, ◌≤◌, ◌^◌, List, [], ◌∷◌, ◌++◌, map, Contains, sym, ap, subst, ◌∙◌, append-nil, arith}
+use Rattle.std.proofs.Common.{◌≡◌, ◌⊎◌, inl, inr, ℕ, ◌+◌, ◌<◌, ◌≤◌, ◌^◌, List, [], ◌∷◌, ◌++◌, map, Contains, refl, sym, ap, subst, ◌∙◌, append-nil, arith}
 use Rattle.std.specs.List.{AllByRecursion}
 use Rattle.std.proofs.lemmas.List.Elements.{Contains-append_left, Contains-append_right, Contains-append_cases}
 use Rattle.meta_rows.specs.Prelude.{Rows, rows_after}
@@ -11,14 +11,13 @@ use Rattle.unit_allocator.proofs.Lists.{Contains-cases}
 use Rattle.plan_rows.specs.declared.plan.FreshUnit.{FreshUnit}
 use Rattle.plan_rows.specs.declared.plan.Plan.{Plan}
 use Rattle.plan_rows.specs.Prelude.{AreAtHome, fresh_units, IsGood, Suits, OwnsItsUnits, PlanKeeps}
-use Rattle.plan_rows.proofs.Homes.{have_homes}
-use Rattle.plan_rows.proofs.Apart.{bits_turned}
+use Rattle.plan_rows.proofs.Apart.{bits_turned, changed_at_home}
 use Rattle.plan_rows.proofs.Agreeing.{agree_itself}
 use Rattle.selections.specs.Fair.{IsFair}
-use Rattle.selections.proofs.Selecting.{fair_front, by_fronts, with_last, fair_none}
-use Rattle.store_steps.specs.Prelude.{Intent, names_in, is_in, plan_of, rows_by, taken_by, released_by, IsPlannedOver, EachIsPlanned, AreTakenApart}
+use Rattle.selections.proofs.Selecting.{fair_front, by_fronts, with_last, fair_none, all_selected}
+use Rattle.store_steps.specs.Prelude.{Intent, names_in, is_in, plan_of, rows_by, taken_by, released_by, IsPlannedOver, EachIsPlanned, AreTakenApart, HaveHomes}
 use Rattle.space_facts.specs.Owning.{OwnTheirUnits}
-use Rattle.space_facts.proofs.Lists.{all_join, listed_all, in_or_not, by_ends, times, times_append, times_none, times_some, some_times, times_once, once_times}
+use Rattle.space_facts.proofs.Lists.{all_rest, all_join, listed_all, in_or_not, by_ends, times, times_append, times_none, times_some, some_times, times_once, once_times}
 use Rattle.space_facts.proofs.Rows.{is_own, each_named, rows_append, taken_append, released_append, IsOf}
 
 -- ---- what intents took and released, with one more
@@ -121,14 +120,6 @@ small_of sup unit limits on = omega (arith, on.1, limits.units_most)
 
 -- ---- the rows of fair selections
 
--- the homes of blobs, as the committed rows name them
-pub home_of : (sup : Super) (rows : Rows) → IsGood sup rows → ℕ → List ℕ
-home_of sup rows good = (have_homes sup rows good.good).0
-
-at_home_first : (sup : Super) (rows : Rows) (good : IsGood sup rows) → AreAtHome (width_of sup) (home_of sup rows good) rows
-unfolding home_of
-at_home_first sup rows good = (have_homes sup rows good.good).1
-
 module _ (sup : Super) (rows : Rows) (xs : List Intent) (good : IsGood sup rows) (each : EachIsPlanned sup rows xs) where
   abbrev Fair : List Intent → Type 0
   Fair some = IsFair is_in xs some
@@ -152,7 +143,7 @@ module _ (sup : Super) (rows : Rows) (xs : List Intent) (good : IsGood sup rows)
   pub suits_at : (some : List Intent) (x : Intent) → Fair (some ++ x ∷ [])
       → Suits (width_of sup) (names_in x) (rows_by rows some) (plan_of x) (rows_by rows some)
   suits_at some x fair =
-      record { agree = agree_itself (width_of sup) (names_in x) (rows_by rows some); unmarked = (each some x fair).unmarked }
+      record { agree = agree_itself (width_of sup) (names_in x) (rows_by rows some); blobs = λ sbid changes. refl; unmarked = (each some x fair).unmarked }
 
   after_one : (some : List Intent) (x : Intent) → rows_by rows (some ++ x ∷ []) ≡ rows_after (rows_by rows some) x.ops
   after_one some x = rows_append rows some (x ∷ [])
@@ -179,51 +170,12 @@ module _ (sup : Super) (rows : Rows) (xs : List Intent) (good : IsGood sup rows)
   pub selection_exact : (some : List Intent) → Fair some → IsExactAs (width_of sup) rows (rows_by rows some)
   selection_exact some fair = (selection_stays some fair).1
 
-  -- blobs stay where they are at home
-  pub at_home : (some : List Intent) → Fair some → AreAtHome (width_of sup) (home_of sup rows good) (rows_by rows some)
-  at_home = by_fronts is_in xs (λ some. AreAtHome (width_of sup) (home_of sup rows good) (rows_by rows some)) (at_home_first sup rows good)
-      (λ some x fair before. subst (AreAtHome (width_of sup) (home_of sup rows good)) (sym (after_one some x))
-      ((each some x fair).keeps.home (home_of sup rows good) (rows_by rows some) (suits_at some x fair)
-      (selection_good some (fair_front is_in xs some (x ∷ []) fair)) before))
-
-  -- a plan over the rows of a selection is of its collections
-  pub planned_of : (some : List Intent) (x : Intent) → Fair some → PlanKeeps sup (names_in x) (rows_by rows some) (plan_of x)
-      → IsOf (home_of sup rows good) x
-  planned_of some x fair keeps = keeps.of (home_of sup rows good) (λ c sbid among named. at_home some fair c sbid named)
-
-  pub last_of : (some : List Intent) (x : Intent) → Fair (some ++ x ∷ []) → IsOf (home_of sup rows good) x
-  last_of some x fair = planned_of some x (fair_front is_in xs some (x ∷ []) fair) (each some x fair).keeps
-
-  pub selected_of : (some : List Intent) → Fair some → AllByRecursion (IsOf (home_of sup rows good)) some
-  selected_of = each_of (IsOf (home_of sup rows good)) last_of
-
   owns_at : (some : List Intent) (x : Intent) → Fair (some ++ x ∷ [])
       → OwnsItsUnits (width_of sup) (rows_by rows some) (rows_by rows (some ++ x ∷ [])) (plan_of x)
   owns_at some x fair =
       subst (λ r. OwnsItsUnits (width_of sup) (rows_by rows some) r (plan_of x)) (sym (after_one some x))
       ((each some x fair).keeps.owns (rows_by rows some) (suits_at some x fair)
       (selection_good some (fair_front is_in xs some (x ∷ []) fair)))
-
-  -- a leaked unit stays so: none takes or releases it
-  pub selection_leaked : (unit : ℕ) → IsLeaked (width_of sup) rows unit → (some : List Intent) → Fair some
-      → IsLeaked (width_of sup) (rows_by rows some) unit
-  selection_leaked unit leaked = by_fronts is_in xs (λ some. IsLeaked (width_of sup) (rows_by rows some) unit) leaked more
-    where
-      more : (some : List Intent) (x : Intent) → Fair (some ++ x ∷ []) → IsLeaked (width_of sup) (rows_by rows some) unit
-          → IsLeaked (width_of sup) (rows_by rows (some ++ x ∷ [])) unit
-      more some x fair before =
-          let p : IsPlannedOver sup (rows_by rows some) x = each some x fair in
-          let owns : OwnsItsUnits (width_of sup) (rows_by rows some) (rows_by rows (some ++ x ∷ [])) (plan_of x) = owns_at some x fair in
-          let not_fresh : ¬ Contains (units_of x) unit =
-          λ c. listed_all (λ u. ¬ IsMarked (rows_by rows some) u) (units_of x) unit p.unmarked c before.marked in
-          let not_released : ¬ Contains x.released unit = λ c. before.unowned (owns.was unit c) in
-          record {
-            is_unit = before.is_unit;
-            marked = subst (λ r. IsMarked r unit) (sym (after_one some x))
-                ((bits_turned (home_of sup rows good) (names_in x) (units_of x) x.released (rows_by rows some) x.ops (last_of some x fair) unit
-                before.is_unit).1 (inl (before.marked, λ either. elim either [ inl c ↦ not_fresh c | inr c ↦ not_released c ])));
-            unowned = λ owned. elim (owns.new unit owned) [ inl was ↦ before.unowned was | inr c ↦ not_fresh c ];
-          }
 
   module _ (apart : AreTakenApart rows xs) where
     pub selected_unmarked : (some : List Intent) → Fair some → (unit : ℕ) → Contains (taken_by some) unit → ¬ IsMarked rows unit
@@ -339,3 +291,40 @@ module _ (sup : Super) (rows : Rows) (xs : List Intent) (good : IsGood sup rows)
       ]
       | inr leaked ↦ out leaked.0.marked
     ]
+
+  module _ (homes : HaveHomes (width_of sup) rows xs) where
+    -- what is selected is of its collections, and of blobs at home there
+    pub selected_of : (some : List Intent) → Fair some → AllByRecursion (IsOf homes.home) some
+    selected_of some fair = all_selected is_in each_named (IsOf homes.home) xs some fair homes.changed
+
+    pub last_of : (some : List Intent) (x : Intent) → Fair (some ++ x ∷ []) → IsOf homes.home x
+    last_of some x fair = (all_rest (IsOf homes.home) some (x ∷ []) (selected_of (some ++ x ∷ []) fair)).0
+
+    -- blobs stay where they are at home
+    pub at_home : (some : List Intent) → Fair some → AreAtHome (width_of sup) homes.home (rows_by rows some)
+    at_home = by_fronts is_in xs (λ some. AreAtHome (width_of sup) homes.home (rows_by rows some)) homes.named
+        (λ some x fair before. subst (AreAtHome (width_of sup) homes.home) (sym (after_one some x))
+        ((each some x fair).keeps.home homes.home (rows_by rows some) (suits_at some x fair)
+        (selection_good some (fair_front is_in xs some (x ∷ []) fair)) before
+        (λ sbid made. changed_at_home homes.home (names_in x) (units_of x) x.released x.ops (last_of some x fair) sbid made.changes)))
+
+    -- a leaked unit stays so: none takes or releases it
+    pub selection_leaked : (unit : ℕ) → IsLeaked (width_of sup) rows unit → (some : List Intent) → Fair some
+        → IsLeaked (width_of sup) (rows_by rows some) unit
+    selection_leaked unit leaked = by_fronts is_in xs (λ some. IsLeaked (width_of sup) (rows_by rows some) unit) leaked more
+      where
+        more : (some : List Intent) (x : Intent) → Fair (some ++ x ∷ []) → IsLeaked (width_of sup) (rows_by rows some) unit
+            → IsLeaked (width_of sup) (rows_by rows (some ++ x ∷ [])) unit
+        more some x fair before =
+            let p : IsPlannedOver sup (rows_by rows some) x = each some x fair in
+            let owns : OwnsItsUnits (width_of sup) (rows_by rows some) (rows_by rows (some ++ x ∷ [])) (plan_of x) = owns_at some x fair in
+            let not_fresh : ¬ Contains (units_of x) unit =
+            λ c. listed_all (λ u. ¬ IsMarked (rows_by rows some) u) (units_of x) unit p.unmarked c before.marked in
+            let not_released : ¬ Contains x.released unit = λ c. before.unowned (owns.was unit c) in
+            record {
+              is_unit = before.is_unit;
+              marked = subst (λ r. IsMarked r unit) (sym (after_one some x))
+                  ((bits_turned (homes.home) (names_in x) (units_of x) x.released (rows_by rows some) x.ops (last_of some x fair) unit
+                  before.is_unit).1 (inl (before.marked, λ either. elim either [ inl c ↦ not_fresh c | inr c ↦ not_released c ])));
+              unowned = λ owned. elim (owns.new unit owned) [ inl was ↦ before.unowned was | inr c ↦ not_fresh c ];
+            }

@@ -1,5 +1,5 @@
 -- The idle units: what a submission takes and what a commit gives back.
-use Rattle.std.proofs.Common.{◌≡◌, ◌↔◌, ◌⊎◌, inl, inr, ℕ, zero, suc, ◌<◌, ◌^◌, Bool, true, false, List, [], ◌∷◌, ◌++◌, map, length, get_or, Contains, Any, refl, sym, ap, subst, arith}
+use Rattle.std.proofs.Common.{◌≡◌, ◌↔◌, ◌⊎◌, inl, inr, ℕ, zero, suc, ◌<◌, ◌≤◌, ◌^◌, Bool, true, false, List, [], ◌∷◌, ◌++◌, map, length, get_or, Contains, Any, refl, sym, ap, subst, arith}
 use Rattle.std.specs.List.{AllByRecursion}
 use Rattle.std.proofs.lemmas.List.Elements.{Contains-append_left, Contains-append_right, Contains-append_cases}
 use Rattle.meta_rows.specs.Prelude.{Rows}
@@ -9,14 +9,15 @@ use Rattle.store_image.specs.Prelude.{IsDataUnit, IsOwned, IsMarked, IsBusy}
 use Rattle.unit_allocator.specs.Prelude.{Space, is_idle, free_units, taken, given}
 use Rattle.unit_allocator.proofs.Lists.{Contains-head}
 use Rattle.unit_allocator.proofs.FreeUnits.{listed_is_within}
-use Rattle.plan_rows.specs.Prelude.{AreFreeOver, IsGood, PlanKeeps}
+use Rattle.plan_rows.specs.Prelude.{AreFreeOver, MakesBlob, IsGood, PlanKeeps}
 use Rattle.plan_rows.proofs.OnData.{owned_on_data}
 use Rattle.selections.specs.Fair.{IsComplete}
 use Rattle.selections.proofs.Selecting.{fair_all, complete_is_fair}
-use Rattle.store_steps.specs.Prelude.{Intent, names_in, is_in, plan_of, rows_by, taken_by, released_by, EachIsPlanned, AreTakenApart, SpaceIsCounted, CanJoin}
+use Rattle.store_steps.specs.Prelude.{Intent, names_in, is_in, plan_of, rows_by, taken_by, released_by, EachIsPlanned, AreTakenApart, HaveHomes, AreBlobsBelow, SpaceIsCounted, CanJoin}
 use Rattle.space_facts.specs.Spaces.{HasDataUnits, HasOnlyDataUnits}
 use Rattle.space_facts.specs.Owning.{OwnTheirUnits}
 use Rattle.space_facts.proofs.Idle.{listed_is_idle, idle_taken, idle_given}
+use Rattle.space_facts.proofs.Making.{unmade_by}
 use Rattle.space_facts.proofs.Lists.{all_listed, listed_all, in_or_not, times, times_append, times_some, times_once}
 use Rattle.space_facts.proofs.Rows.{taken_append, released_append}
 use Rattle.space_facts.proofs.Selected.{units_of, taken_before, taken_last, taken_cases, selected_taken, small_of, keeps_on_data, selected_on_data, selection_owns, selection_good, selection_exact, selection_leaked, idle_unmarked}
@@ -108,13 +109,15 @@ free_over sup rows xs space limits good each apart on_data counted =
         (on, λ owned. out ((selection_good sup rows xs good each xs (fair_all is_in xs)).exact.owned_marked unit owned), out)
 
 -- and a plan over them that takes free units can join
-pub free_joins : (sup : Super) (rows : Rows) (xs : List Intent) (x : Intent) (space : Space) → SpaceIsCounted sup rows xs space
-    → PlanKeeps sup (names_in x) (rows_by rows xs) (plan_of x) → AllByRecursion (λ u. Contains (free_units space) u) (units_of x)
+pub free_joins : (sup : Super) (next : ℕ) (rows : Rows) (xs : List Intent) (x : Intent) (space : Space) → SpaceIsCounted sup rows xs space
+    → AreBlobsBelow next rows xs → PlanKeeps sup (names_in x) (rows_by rows xs) (plan_of x)
+    → AllByRecursion (λ u. Contains (free_units space) u) (units_of x) → ((sbid : ℕ) → MakesBlob (rows_by rows xs) x.ops sbid → next ≤ sbid)
     → CanJoin sup rows xs x
-free_joins sup rows xs x space counted keeps free = record {
+free_joins sup next rows xs x space counted below keeps free makes = record {
   keeps = keeps;
   unmarked = all_listed (λ u. ¬ IsMarked rows u) (units_of x) (λ u c. (idle u c).0);
   untaken = all_listed (λ u. ¬ Contains (taken_by xs) u) (units_of x) (λ u c. (idle u c).1);
+  unmade = λ sbid made. unmade_by next rows xs sbid below made.changes.0 (makes sbid made);
 }
   where
     idle : (unit : ℕ) → Contains (units_of x) unit → (¬ IsMarked rows unit) × (¬ Contains (taken_by xs) unit)
@@ -199,11 +202,12 @@ module _ (sup : Super) (rows : Rows) (batch pending : List Intent) (good : IsGoo
     ]
 
     -- what was busy is so then, or the batch released it
-    busy_then : IsBusyBy rows (batch ++ pending) v → IsBusyBy later pending v ⊎ Contains (released_by batch) v
-    busy_then busy = elim (busy_cases rows (batch ++ pending) v busy) [
+    busy_then : HaveHomes (width_of sup) rows (batch ++ pending) → IsBusyBy rows (batch ++ pending) v
+        → IsBusyBy later pending v ⊎ Contains (released_by batch) v
+    busy_then homes busy = elim (busy_cases rows (batch ++ pending) v busy) [
       | inl marked ↦ elim (good.exact.marked v small marked) [
         | inl owned ↦ owned_or (owns.left v owned)
-        | inr leaked ↦ inl (inl (selection_leaked sup rows (batch ++ pending) good each v leaked.0 batch
+        | inr leaked ↦ inl (inl (selection_leaked sup rows (batch ++ pending) good each homes v leaked.0 batch
             (batch_fair sup rows batch pending good each)).marked)
       ]
       | inr took ↦ elim (Contains-append_cases (taken_by batch) (taken_by pending) v (subst (λ l. Contains l v) (taken_append batch pending) took)) [
@@ -215,16 +219,16 @@ module _ (sup : Super) (rows : Rows) (batch pending : List Intent) (good : IsGoo
         owned_or : IsOwned (width_of sup) later v ⊎ Contains (released_by batch) v → IsBusyBy later pending v ⊎ Contains (released_by batch) v
         owned_or is = elim is [ inl owned ↦ inl (inl (later_good.exact.owned_marked v owned)) | inr r ↦ inr r ]
 
-  pub counted_committed : IsSuper sup → (space : Space) → HasDataUnits sup space → SpaceIsCounted sup rows (batch ++ pending) space
+  pub counted_committed : HaveHomes (width_of sup) rows (batch ++ pending) → IsSuper sup → (space : Space) → HasDataUnits sup space → SpaceIsCounted sup rows (batch ++ pending) space
       → SpaceIsCounted sup later pending (given space (released_by batch))
-  counted_committed limits space has counted v on = (
+  counted_committed homes limits space has counted v on = (
     λ e. elim (after.0 e) [
       | inl was_idle ↦ λ busy. was.0 was_idle (busy_before v small busy)
       | inr r ↦ released_idle v small r
     ],
     λ idle. after.1 (elim (in_or_not (released_by batch) v) [
       | inl r ↦ inr r
-      | inr out ↦ inl (was.1 (λ busy. elim (busy_then v small busy) [ inl then ↦ idle then | inr r ↦ out r ]))
+      | inr out ↦ inl (was.1 (λ busy. elim (busy_then v small homes busy) [ inl then ↦ idle then | inr r ↦ out r ]))
     ]),
   )
     where

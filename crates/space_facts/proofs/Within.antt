@@ -102,8 +102,8 @@ within_opened p same le = record {
     more : (a b reserved : ℕ) → a ≡ b → a ≤ b + reserved
     more a b reserved same = omega (arith, same)
 
-pub within_joined : (p : RowsPart) (x : Intent) → NeedsEnough x → AreRowsWithin p → AreRowsWithin (with_accepted x p)
-within_joined p x enough within = record {
+pub within_joined : (p : RowsPart) (x : Intent) (more : ℕ) → NeedsEnough x → AreRowsWithin p → AreRowsWithin (with_accepted x more p)
+within_joined p x makes enough within = record {
   committed = within.committed;
   submitted = more (rows_units (rows_after p.submitted x.ops)) (rows_units p.submitted) (unit_count 0 x.ops) (rows_units p.rows) p.reserved x.need
       (rows_units-after p.submitted 0 x.ops) (enough 0) within.submitted;

@@ -1,5 +1,5 @@
 //! How accepted transactions that are under way keep rows good and units apart.
-ghost use Rattle.std.specs.Prelude.{◌≡◌, ◌↔◌, ℕ, ◌+◌, ◌*◌, ◌≤◌, true, false, List, [], ◌∷◌, ◌++◌, map, Contains};
+ghost use Rattle.std.specs.Prelude.{◌≡◌, ◌↔◌, ℕ, ◌+◌, ◌*◌, ◌<◌, ◌≤◌, true, false, List, [], ◌∷◌, ◌++◌, map, Contains};
 ghost use Rattle.std.specs.List.{AllByRecursion};
 ghost use Rattle.std.specs.FinMap as finite;
 ghost use Rattle.meta_rows.specs.Prelude.{Rows, rows_after, rows_of_records, rows_size};
@@ -7,10 +7,11 @@ ghost use Rattle.meta_rows.specs.declared.row_op.RowOp.{RowOp};
 ghost use Rattle.meta_log.specs.declared.slot.Super.{Super};
 ghost use Rattle.meta_log.specs.Prelude.{width_of, IsSuper, unit_count, units_of_records, check_units, next_super};
 ghost use Rattle.store_image.specs.Prelude.{IsDataUnit, IsMarked, IsLeaked, IsExactAs, IsBusy};
+ghost use Rattle.unit_fields.specs.declared.width.Width.{Width};
 ghost use Rattle.unit_allocator.specs.Prelude.{Space, is_idle, free_units, taken, given};
-ghost use Rattle.plan_rows.specs.Prelude.{AreFreeOver, fresh_units, IsGood, Suits, PlanKeeps};
+ghost use Rattle.plan_rows.specs.Prelude.{AreFreeOver, fresh_units, IsAboveBlobs, MakesBlob, IsGood, Suits, PlanKeeps};
 ghost use Rattle.selections.specs.Fair.{under, IsFair, IsComplete, HasLast};
-ghost use Rattle.store_steps.specs.Prelude.{Intent, names_in, is_in, plan_of, rows_by, ops_by, released_by, EachIsPlanned, AreTakenApart, SpaceIsCounted, CanJoin, needs_by, RowsPart, with_accepted, applied, rewritten, rows_units, NeedsEnough, AreRowsWithin};
+ghost use Rattle.store_steps.specs.Prelude.{Intent, names_in, is_in, plan_of, rows_by, ops_by, released_by, EachIsPlanned, AreTakenApart, HaveHomes, AreBlobsBelow, SpaceIsCounted, CanJoin, needs_by, RowsPart, with_accepted, applied, rewritten, rows_units, NeedsEnough, AreRowsWithin};
 ghost use Rattle.space_facts.specs.Example.{two, no_rows};
 ghost use Rattle.space_facts.specs.Spaces.{HasDataUnits, HasOnlyDataUnits};
 ghost use Rattle.space_facts.specs.Owning.{OwnTheirUnits};
@@ -21,10 +22,13 @@ pub fn rows_by_intents()
     ensures operations { (rows : Rows) (xs : List Intent) → rows_after rows (ops_by xs) ≡ rows_by rows xs }
 {}
 
-/// Where nothing is under way nothing is asked of plans, and of the space that a data unit is idle exactly where it isn't marked.
+/// Where nothing is under way nothing is asked of plans, and of the space that a data unit is idle exactly where it isn't marked. Blobs have the homes
+/// that their namers tell, and numbers below one that is above all of the rows.
 pub fn nothing_under_way()
     ensures planned { (sup : Super) (rows : Rows) → EachIsPlanned sup rows [] }
     ensures apart { (rows : Rows) → AreTakenApart rows [] }
+    ensures homes { (sup : Super) (rows : Rows) → IsGood sup rows → HaveHomes (width_of sup) rows [] }
+    ensures blobs { (next : ℕ) (rows : Rows) → IsAboveBlobs next rows → AreBlobsBelow next rows [] }
     ensures counted { (sup : Super) (rows : Rows) (space : Space)
         → ((unit : ℕ) → IsDataUnit sup unit → (is_idle space unit ≡ true) ↔ (¬ IsMarked rows unit)) → SpaceIsCounted sup rows [] space }
 {}
@@ -36,7 +40,7 @@ pub fn selections_stay_good()
     ensures exact { (sup : Super) (rows : Rows) (xs some : List Intent) → IsGood sup rows → EachIsPlanned sup rows xs → IsFair is_in xs some
         → IsExactAs (width_of sup) rows (rows_by rows some) }
     ensures leaked { (sup : Super) (rows : Rows) (xs some : List Intent) (unit : ℕ) → IsGood sup rows → EachIsPlanned sup rows xs
-        → IsFair is_in xs some → IsLeaked (width_of sup) rows unit → IsLeaked (width_of sup) (rows_by rows some) unit }
+        → HaveHomes (width_of sup) rows xs → IsFair is_in xs some → IsLeaked (width_of sup) rows unit → IsLeaked (width_of sup) (rows_by rows some) unit }
 {}
 
 /// What a fair selection changes of the owned units is what its transactions take and release.
@@ -51,31 +55,39 @@ pub fn released_are_busy()
         → Contains (released_by xs) unit → IsBusy rows (map (λ x. fresh_units (plan_of x)) xs) unit }
 {}
 
-/// Over the submitted rows and the free units a plan can be made, and a plan over them that takes free units can join.
+/// Over the submitted rows and the free units a plan can be made, and a plan over them that takes free units, and makes blobs with the next numbers,
+/// can join.
 pub fn free_units_can_join()
     ensures over { (sup : Super) (rows : Rows) (xs : List Intent) (space : Space) → IsSuper sup → IsGood sup rows → EachIsPlanned sup rows xs
         → AreTakenApart rows xs → HasOnlyDataUnits sup space → SpaceIsCounted sup rows xs space
         → AreFreeOver sup (rows_by rows xs) space }
-    ensures joins { (sup : Super) (rows : Rows) (xs : List Intent) (x : Intent) (space : Space) → SpaceIsCounted sup rows xs space
-        → PlanKeeps sup (names_in x) (rows_by rows xs) (plan_of x)
-        → AllByRecursion (λ u. Contains (free_units space) u) (fresh_units (plan_of x)) → CanJoin sup rows xs x }
+    ensures joins { (sup : Super) (next : ℕ) (rows : Rows) (xs : List Intent) (x : Intent) (space : Space) → SpaceIsCounted sup rows xs space
+        → AreBlobsBelow next rows xs → PlanKeeps sup (names_in x) (rows_by rows xs) (plan_of x)
+        → AllByRecursion (λ u. Contains (free_units space) u) (fresh_units (plan_of x))
+        → ((sbid : ℕ) → MakesBlob (rows_by rows xs) x.ops sbid → next ≤ sbid) → CanJoin sup rows xs x }
+    ensures above { (next : ℕ) (rows : Rows) (xs : List Intent) → AreBlobsBelow next rows xs → IsAboveBlobs next (rows_by rows xs) }
 {}
 
-/// Where one more can join, each is planned among them and that one, and what all of them took is apart.
+/// Where one more can join, each is planned among them and that one, and what all of them took is apart. Blobs have homes then, those that it makes
+/// in its collection; and numbers below the next one.
 pub fn one_more_is_planned()
     ensures planned { (sup : Super) (rows : Rows) (xs : List Intent) (x : Intent) → IsSuper sup → IsGood sup rows → EachIsPlanned sup rows xs
-        → AreTakenApart rows xs → CanJoin sup rows xs x → EachIsPlanned sup rows (xs ++ x ∷ []) }
+        → AreTakenApart rows xs → HaveHomes (width_of sup) rows xs → CanJoin sup rows xs x → EachIsPlanned sup rows (xs ++ x ∷ []) }
     ensures apart { (sup : Super) (rows : Rows) (xs : List Intent) (x : Intent) → IsSuper sup → IsGood sup rows → EachIsPlanned sup rows xs
-        → AreTakenApart rows xs → CanJoin sup rows xs x → AreTakenApart rows (xs ++ x ∷ []) }
+        → AreTakenApart rows xs → HaveHomes (width_of sup) rows xs → CanJoin sup rows xs x → AreTakenApart rows (xs ++ x ∷ []) }
+    ensures homes { (sup : Super) (rows : Rows) (xs : List Intent) (x : Intent) → IsSuper sup → IsGood sup rows → EachIsPlanned sup rows xs
+        → AreTakenApart rows xs → HaveHomes (width_of sup) rows xs → CanJoin sup rows xs x → HaveHomes (width_of sup) rows (xs ++ x ∷ []) }
+    ensures blobs { (next more : ℕ) (rows : Rows) (xs : List Intent) (x : Intent) → AreBlobsBelow next rows xs
+        → ((sbid : ℕ) → MakesBlob (rows_by rows xs) x.ops sbid → sbid < next + more) → AreBlobsBelow (next + more) rows (xs ++ x ∷ []) }
 {}
 
 /// In a fair selection that has the one that joined, that one may come last, over rows that suit its plan.
 pub fn one_more_may_come_last()
     ensures rows { (sup : Super) (rows : Rows) (xs some : List Intent) (x : Intent) → IsSuper sup → IsGood sup rows → EachIsPlanned sup rows xs
-        → AreTakenApart rows xs → CanJoin sup rows xs x → (has : HasLast is_in xs x some)
+        → AreTakenApart rows xs → HaveHomes (width_of sup) rows xs → CanJoin sup rows xs x → (has : HasLast is_in xs x some)
         → rows_by rows some ≡ rows_after (rows_by rows (has.front ++ has.back)) x.ops }
     ensures suits { (sup : Super) (rows : Rows) (xs some : List Intent) (x : Intent) → IsSuper sup → IsGood sup rows → EachIsPlanned sup rows xs
-        → AreTakenApart rows xs → CanJoin sup rows xs x → (has : HasLast is_in xs x some)
+        → AreTakenApart rows xs → HaveHomes (width_of sup) rows xs → CanJoin sup rows xs x → (has : HasLast is_in xs x some)
         → Suits (width_of sup) (names_in x) (rows_by rows xs) (plan_of x) (rows_by rows (has.front ++ has.back)) }
 {}
 
@@ -85,14 +97,17 @@ pub fn order_between_collections()
         → IsComplete is_in (front ++ x ∷ back) (x ∷ (front ++ back)) }
     ensures planned { (sup : Super) (rows : Rows) (xs ys : List Intent) → IsComplete is_in xs ys → EachIsPlanned sup rows xs
         → EachIsPlanned sup rows ys }
-    ensures rows { (sup : Super) (rows : Rows) (xs ys : List Intent) → IsComplete is_in xs ys → IsGood sup rows → EachIsPlanned sup rows xs
+    ensures rows { (sup : Super) (rows : Rows) (xs ys : List Intent) → IsComplete is_in xs ys → IsGood sup rows → HaveHomes (width_of sup) rows xs
         → rows_by rows xs ≡ rows_by rows ys }
     ensures apart { (rows : Rows) (xs ys : List Intent) → IsComplete is_in xs ys → AreTakenApart rows xs → AreTakenApart rows ys }
+    ensures homes { (w : Width) (rows : Rows) (xs ys : List Intent) → IsComplete is_in xs ys → HaveHomes w rows xs → HaveHomes w rows ys }
+    ensures blobs { (next : ℕ) (rows : Rows) (xs ys : List Intent) → IsComplete is_in xs ys → AreBlobsBelow next rows xs → AreBlobsBelow next rows ys }
     ensures counted { (sup : Super) (rows : Rows) (xs ys : List Intent) (space : Space) → IsComplete is_in xs ys
         → SpaceIsCounted sup rows xs space → SpaceIsCounted sup rows ys space }
 {}
 
-/// Once a batch is committed the rows are good, each of those that wait is planned over them, and what these took is apart.
+/// Once a batch is committed the rows are good, each of those that wait is planned over them, what these took is apart, and blobs have homes and
+/// numbers as before.
 pub fn commits_keep_plans()
     ensures good { (sup : Super) (rows : Rows) (batch pending : List Intent) → IsGood sup rows → EachIsPlanned sup rows (batch ++ pending)
         → IsGood sup (rows_by rows batch) }
@@ -100,6 +115,10 @@ pub fn commits_keep_plans()
         → EachIsPlanned sup (rows_by rows batch) pending }
     ensures apart { (sup : Super) (rows : Rows) (batch pending : List Intent) → IsSuper sup → IsGood sup rows
         → EachIsPlanned sup rows (batch ++ pending) → AreTakenApart rows (batch ++ pending) → AreTakenApart (rows_by rows batch) pending }
+    ensures homes { (sup : Super) (rows : Rows) (batch pending : List Intent) → IsGood sup rows → EachIsPlanned sup rows (batch ++ pending)
+        → HaveHomes (width_of sup) rows (batch ++ pending) → HaveHomes (width_of sup) (rows_by rows batch) pending }
+    ensures blobs { (next : ℕ) (rows : Rows) (batch pending : List Intent) → AreBlobsBelow next rows (batch ++ pending)
+        → AreBlobsBelow next (rows_by rows batch) pending }
 {}
 
 /// Where the halves change places the rows are good still, and each is planned over them as before.
@@ -116,7 +135,7 @@ pub fn space_stays_counted()
         → HasDataUnits sup space → CanJoin sup rows xs x → SpaceIsCounted sup rows xs space
         → SpaceIsCounted sup rows (xs ++ x ∷ []) (taken space (fresh_units (plan_of x))) }
     ensures committed { (sup : Super) (rows : Rows) (batch pending : List Intent) (space : Space) → IsSuper sup → IsGood sup rows
-        → EachIsPlanned sup rows (batch ++ pending) → AreTakenApart rows (batch ++ pending)
+        → EachIsPlanned sup rows (batch ++ pending) → AreTakenApart rows (batch ++ pending) → HaveHomes (width_of sup) rows (batch ++ pending)
         → HasDataUnits sup space → SpaceIsCounted sup rows (batch ++ pending) space
         → SpaceIsCounted sup (rows_by rows batch) pending (given space (released_by batch)) }
 {}
@@ -143,7 +162,7 @@ pub fn rows_are_no_longer_than_records()
 /// halves change places.
 pub fn rows_stay_within_the_log()
     ensures opened { (p : RowsPart) → p.submitted ≡ p.rows → rows_units p.rows ≤ p.tail → AreRowsWithin p }
-    ensures joined { (p : RowsPart) (x : Intent) → NeedsEnough x → AreRowsWithin p → AreRowsWithin (with_accepted x p) }
+    ensures joined { (p : RowsPart) (x : Intent) (more : ℕ) → NeedsEnough x → AreRowsWithin p → AreRowsWithin (with_accepted x more p) }
     ensures applied { (p : RowsPart) (number : ℕ) (front back : List Intent) → p.submitted ≡ rows_by p.rows (front ++ back)
         → p.reserved ≡ needs_by front + needs_by back → AllByRecursion NeedsEnough back → AreRowsWithin p
         → AreRowsWithin (applied number front back p) }

@@ -24,7 +24,7 @@ use Rattle.store_steps.specs.declared.flight.Flying.{Flying}
 use Rattle.store_steps.specs.declared.flight.Switching.{Switching}
 use Rattle.store_steps.specs.Prelude.{State, CanNote, Accepts, accepted_with, need_of, memory_of, IsReadNow}
 use Rattle.run_facts.specs.Prelude.{IsKept}
-use Rattle.run_facts.proofs.Prelude.{kept_submitted, kept_free, submitted_short, fresh_not_in_memory}
+use Rattle.run_facts.proofs.Prelude.{kept_submitted, kept_above, kept_free, submitted_short, fresh_not_in_memory}
 use Rattle.object_rows.specs.Stores.{AreRowsOfAStore, AreRowsOfWidth}
 use Rattle.read_facts.specs.Prelude.{IsHeldAt, AreGoodUnits}
 use Rattle.page_sources.specs.Prelude.{HasPlaceToRead, IsPlacesFail}
@@ -62,7 +62,7 @@ pub given : (s : State) (d : Disk) (change : Change) (plan : Plan) (memory : ℕ
     → IsKept s d → CanNote s → memory ≡ memory_of s → IsPlanFor (width_of s.log.sup) change s.submitted s.space places plan → plan.read ≡ read
     → AreGoodUnits memory (IsHeldAt d) places (map (λ r. r.bytes) read) → IsPlanOf change s d plan
 given s d change plan memory places read kept can same is read_is good =
-    let both = is.plans s.log.sup refl (kept_free s d kept can.up) in
+    let both = is.plans s.log.sup s.next_sbid refl (kept_free s d kept can.up) kept.always.sbids in
     record {
       not_refused = is.not_refused;
       plans = both.0;
@@ -110,13 +110,14 @@ handed_on P (Err e) why is holds = subst P (sym is.1) holds
 pub planned_keeps : (s : State) (d : Disk) (change : Change) (plan : Plan) → IsKept s d → CanNote s → IsKnown change.ops
     → IsPlanOf change s d plan → PlanKeeps s.log.sup (names_of change) s.submitted plan
 planned_keeps s d change plan kept can known is =
-    (plans_keep s.log.sup s.submitted s.space change plan (kept_submitted s d kept can.up) (kept_free s d kept can.up) known is.plans).0
+    (plans_keep s.log.sup s.submitted s.space s.next_sbid change plan (kept_submitted s d kept can.up) (kept_free s d kept can.up)
+    (kept_above s d kept can.up) known is.plans).0
 
 -- and they are short enough for a record
 pub planned_short : (s : State) (d : Disk) (change : Change) (plan : Plan) → IsKept s d → CanNote s → IsPlanOf change s d plan
     → length (ops_bytes plan.ops) < 2 ^ 43
 planned_short s d change plan kept can is = within (length (ops_bytes plan.ops)) (rows_size s.submitted)
-    (plans_short s.log.sup s.submitted s.space change plan (kept_submitted s d kept can.up) (kept_free s d kept can.up) is.plans)
+    (plans_short s.log.sup s.submitted s.space s.next_sbid change plan (kept_submitted s d kept can.up) (kept_free s d kept can.up) is.plans)
     (submitted_short s d kept can.up)
   where
     within : (bytes rows : ℕ) → bytes ≤ 2 ^ 40 + rows → rows ≤ 2 ^ 28 → bytes < 2 ^ 43
@@ -153,8 +154,9 @@ free_units_are space (u ∷ us) all =
 pub fresh_is_free : (s : State) (d : Disk) (change : Change) (plan : Plan) → IsKept s d → CanNote s → IsKnown change.ops → IsPlanOf change s d plan
     → CanBeTaken (fresh_units plan) s.space
 fresh_is_free s d change plan kept can known is =
-    let takes : PlanTakes s.space change plan =
-    (plans_keep s.log.sup s.submitted s.space change plan (kept_submitted s d kept can.up) (kept_free s d kept can.up) known is.plans).1.1 in
+    let takes : PlanTakes s.space s.next_sbid change s.submitted plan =
+    (plans_keep s.log.sup s.submitted s.space s.next_sbid change plan (kept_submitted s d kept can.up) (kept_free s d kept can.up)
+    (kept_above s d kept can.up) known is.plans).1.1 in
     free_units_are s.space (fresh_units plan) takes.free
 
 -- they are few
@@ -180,16 +182,17 @@ fresh_are_few s d change plan kept can known is =
 pub fresh_absent : (s : State) (d : Disk) (change : Change) (plan : Plan) (memory : ℕ → Option (List ℕ)) → IsKept s d → CanNote s
     → IsKnown change.ops → IsPlanOf change s d plan → memory ≡ memory_of s → AllByRecursion (λ f. memory f.unit ≡ None) plan.fresh
 fresh_absent s d change plan memory kept can known is same =
-    let takes : PlanTakes s.space change plan =
-    (plans_keep s.log.sup s.submitted s.space change plan (kept_submitted s d kept can.up) (kept_free s d kept can.up) known is.plans).1.1 in
+    let takes : PlanTakes s.space s.next_sbid change s.submitted plan =
+    (plans_keep s.log.sup s.submitted s.space s.next_sbid change plan (kept_submitted s d kept can.up) (kept_free s d kept can.up)
+    (kept_above s d kept can.up) known is.plans).1.1 in
     subst (λ (m : ℕ → Option (List ℕ)). AllByRecursion (λ f. m f.unit ≡ None) plan.fresh) (sym same)
     (fresh_not_in_memory s d kept can.up plan.fresh takes.free)
 
 module _ (m : meta.Meta) (submitted : Rows) (pending : List Context) (batch : Option OpenBatch) (switching : Option Switching) (flying : List Flying)
-    (down : Option Ticket) (events : ℕ) (space : Space) (entries : List Entry) (commits : List Commit) (acked : ℕ) where
+    (down : Option Ticket) (events : ℕ) (space : Space) (entries : List Entry) (commits : List Commit) (acked next : ℕ) where
   -- the state of these parts
   abbrev before : State
-  before = state_of m submitted pending batch switching flying down events space entries commits acked
+  before = state_of m submitted pending batch switching flying down events space entries commits acked next
 
   module _ (client line : ℕ) (change : Change) (ready : PreparedTxn) (d : Disk)
       (m' : meta.Meta) (submitted' : Rows) (pending' : List Context) (x : Context) (place : ℕ) (space' : Space) (entries' : List Entry)
@@ -198,14 +201,15 @@ module _ (m : meta.Meta) (submitted : Rows) (pending : List Context) (batch : Op
       (is_submitted : submitted' ≡ rows_after submitted ready.copy) (is_pending : pending' ≡ pending ++ x ∷ [])
       (is_context : x ≡ prepared_context place ready.coll ready.plan ready.need) (is_place : place ≡ length entries)
       (is_space : space' ≡ taken space (map (λ (f : FreshUnit). f.unit) x.fresh))
+      (next' : ℕ) (is_next : next' ≡ next + ready.plan.new_blobs)
       (is_entries : entries' ≡ entries ++ record { client = client; line = line; command = ask.Change change; answer = answer.Accepted; acks = acked } ∷ []) where
     -- the kernel's parts after it was accepted
     abbrev after_it : State
-    after_it = state_of m' submitted' pending' batch switching flying down events space' entries' commits acked
+    after_it = state_of m' submitted' pending' batch switching flying down events space' entries' commits acked next'
 
     pub accepted_state : after_it ≡ accepted_with client line change ready.plan before
     accepted_state =
-        rw (is_meta, is_submitted, is_pending, is_space, is_context, is_place, is_entries, prepared.copy, prepared.coll, prepared.need) refl
+        rw (is_meta, is_submitted, is_pending, is_space, is_context, is_place, is_next, is_entries, prepared.copy, prepared.coll, prepared.need) refl
 
     pub accepted : Accepts client line change before d after_it
     accepted = record {

@@ -13,19 +13,19 @@ use Rattle.store_steps.specs.declared.step.Step.{Step}
 use Rattle.store_kernel.specs.Seen.{found_of, IsUnused, state_of}
 
 -- the state of the kernel's fields as they begin
-pub opened_is : (m : Meta) (rows : Rows) (pending : List Context) (flying : List Flying) (entries : List Entry) (commits : List Commit) (space : Space) (events : ℕ)
+pub opened_is : (m : Meta) (rows : Rows) (pending : List Context) (flying : List Flying) (entries : List Entry) (commits : List Commit) (space : Space) (next events : ℕ)
     → IsUnused m → rows ≡ m.rows → pending ≡ [] → flying ≡ [] → entries ≡ [] → commits ≡ []
-    → state_of m rows pending None None flying None events space entries commits 0 ≡ opened (found_of m) space events
-opened_is m rows pending flying entries commits space events unused same none_pending none_flying none_entered none_committed =
-    ap (λ (x : Rows). state_of m x pending None None flying None events space entries commits 0) same
-    ∙ ap (λ (x : List Context). state_of m m.rows x None None flying None events space entries commits 0) none_pending
-    ∙ ap (λ (x : List Flying). state_of m m.rows [] None None x None events space entries commits 0) none_flying
-    ∙ ap (λ (x : List Entry). state_of m m.rows [] None None [] None events space x commits 0) none_entered
-    ∙ ap (λ (x : List Commit). state_of m m.rows [] None None [] None events space [] x 0) none_committed
-    ∙ ap (λ (r : ℕ). let t : Meta = record m { reserved = r } in state_of t m.rows [] None None [] None events space [] [] 0) unused.none_reserved
-    ∙ ap (λ (b : Option Begun). let t : Meta = record m { reserved = 0; begun = b } in state_of t m.rows [] None None [] None events space [] [] 0)
+    → state_of m rows pending None None flying None events space entries commits 0 next ≡ opened (found_of m) space next events
+opened_is m rows pending flying entries commits space next events unused same none_pending none_flying none_entered none_committed =
+    ap (λ (x : Rows). state_of m x pending None None flying None events space entries commits 0 next) same
+    ∙ ap (λ (x : List Context). state_of m m.rows x None None flying None events space entries commits 0 next) none_pending
+    ∙ ap (λ (x : List Flying). state_of m m.rows [] None None x None events space entries commits 0 next) none_flying
+    ∙ ap (λ (x : List Entry). state_of m m.rows [] None None [] None events space x commits 0 next) none_entered
+    ∙ ap (λ (x : List Commit). state_of m m.rows [] None None [] None events space [] x 0 next) none_committed
+    ∙ ap (λ (r : ℕ). let t : Meta = record m { reserved = r } in state_of t m.rows [] None None [] None events space [] [] 0 next) unused.none_reserved
+    ∙ ap (λ (b : Option Begun). let t : Meta = record m { reserved = 0; begun = b } in state_of t m.rows [] None None [] None events space [] [] 0 next)
     unused.none_begun
-    ∙ ap (λ (c : Option Checking). let t : Meta = record m { reserved = 0; begun = None; check = c } in state_of t m.rows [] None None [] None events space [] [] 0)
+    ∙ ap (λ (c : Option Checking). let t : Meta = record m { reserved = 0; begun = None; check = c } in state_of t m.rows [] None None [] None events space [] [] 0 next)
     unused.none_checked
 
 -- no step is ready where none of them all is

@@ -13,7 +13,7 @@ use Rattle.store_kernel.specs.declared.prepared.PreparedTxn.{PreparedTxn}
 -- plain objects of the submitted rows' shape don't refuse the transaction, and this is its plan, over old bytes that were read of places of which none is bad
 pub record IsPlanOf (change : Change) (s : State) (d : Disk) (plan : Plan) : Type 0 where
   pub not_refused : IsNotRefused s.submitted (ask.Change change)
-  pub plans : Plans (width_of s.log.sup) change s.submitted s.space plan
+  pub plans : Plans (width_of s.log.sup) change s.submitted s.space s.next_sbid plan
   pub read : IsReadNow s d (places_of change.ops plans.start) plan
 
 -- what it needs fits, and the copies are copies

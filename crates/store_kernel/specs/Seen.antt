@@ -48,8 +48,8 @@ pub record IsUnused (m : meta.Meta) : Type 0 where
 
 -- the state, of the kernel's fields
 abbrev pub state_of : meta.Meta → Rows → List Context → Option OpenBatch → Option Switching → List Flying → Option Ticket → ℕ → Space
-    → List Entry → List Commit → ℕ → State
-state_of m submitted pending batch switching flying down events space entries commits acked = record {
+    → List Entry → List Commit → ℕ → ℕ → State
+state_of m submitted pending batch switching flying down events space entries commits acked next = record {
   log = m;
   submitted = submitted;
   pending = pending;
@@ -61,6 +61,7 @@ state_of m submitted pending batch switching flying down events space entries co
   space = space;
   book = record { entries = entries; commits = commits };
   acked = acked;
+  next_sbid = next;
 }
 
 -- rows as a value by which a proof tells maps apart

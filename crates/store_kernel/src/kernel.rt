@@ -65,6 +65,8 @@ pub struct Kernel<D: Device> {
     commits: Vec<Commit>,
     // how many commits are acknowledged
     acked: u32,
+    // the number of the next shared blob
+    next_sbid: u64,
 }
 
 impl<D: Device> Model for Kernel<D> {
@@ -79,31 +81,32 @@ impl<D: Device> Model for Kernel<D> {
 
     ghost view = { λ k. record {
       device = k.device;
-      state = state_of k.meta k.submitted.rows k.contexts k.batch k.switching k.flying.items k.down k.events k.space k.entries.items k.commits.items k.acked;
+      state = state_of k.meta k.submitted.rows k.contexts k.batch k.switching k.flying.items k.down k.events k.space k.entries.items k.commits.items k.acked k.next_sbid;
     } };
 
     ghost invariant = { λ k. KnownOfKernel k.buffers k.batch
-        (state_of k.meta k.submitted.rows k.contexts k.batch k.switching k.flying.items k.down k.events k.space k.entries.items k.commits.items k.acked)
+        (state_of k.meta k.submitted.rows k.contexts k.batch k.switching k.flying.items k.down k.events k.space k.entries.items k.commits.items k.acked k.next_sbid)
         (D.disk k.device) };
 }
 
 impl<D: Device> Kernel<D> {
     /// The kernel of a store whose rows and log are these, over a device on which nothing is in flight. The submitted rows are a copy
-    /// of the committed ones, and `space` has the data units that the bitmap leaves free. `events` is how many events the device has
-    /// had since the mount began. `mount` calls it, and shows that the kernel is durable from its start.
+    /// of the committed ones, `space` has the data units that the bitmap leaves free, and `next_sbid` is the number of the next shared
+    /// blob. `events` is how many events the device has had since the mount began. `mount` calls it, and shows that the kernel is durable from its start.
     pub fn open(
         alloc: Global,
         device: D,
         meta: MetaStore,
         submitted: RowTable,
         space: Allocator,
+        next_sbid: u64,
         events: u64,
     ) -> Kernel<D>
         requires fresh { IsUnused meta }
         requires submitted { submitted.rows ≡ meta.rows }
-        requires kept { IsKept (opened (found_of meta) space events) (D.disk device) }
-        requires durable { KeepsDurable (opened (found_of meta) space events) (D.disk device) }
-        ensures state { result.state ≡ opened (found_of meta) space events }
+        requires kept { IsKept (opened (found_of meta) space next_sbid events) (D.disk device) }
+        requires durable { KeepsDurable (opened (found_of meta) space next_sbid events) (D.disk device) }
+        ensures state { result.state ≡ opened (found_of meta) space next_sbid events }
         ensures device { result.device ≡ device }
     {
         Kernel {
@@ -121,6 +124,7 @@ impl<D: Device> Kernel<D> {
             entries: Vec::new(alloc),
             commits: Vec::new(alloc),
             acked: 0,
+            next_sbid,
         }
     }
 
@@ -146,6 +150,7 @@ impl<D: Device> Kernel<D> {
             entries,
             commits,
             acked: _,
+            next_sbid: _,
         } = self;
         drop(meta);
         drop(submitted);

@@ -45,8 +45,8 @@ pub record Makes (one : Step) (What : Type 0) (s : State) (d : Disk) : Type 0 wh
 -- other entries are of answers without a transaction.
 abbrev pub IsCaused : (s : State) (d : Disk) (s' : State) (d' : Disk) {p q : RowsPart} {events : ℕ} {t : Touch} {b c : BookPart}
     → RowsGo p q → BookGoes events t b c → Type 0
-IsCaused s d s' d' (rows.joins x joined) (book.enters e entered) = AcceptsOne s d s'
-IsCaused s d s' d' (rows.joins x joined) other = ⊥
+IsCaused s d s' d' (rows.joins x more joined) (book.enters e entered) = AcceptsOne s d s'
+IsCaused s d s' d' (rows.joins x more joined) other = ⊥
 IsCaused s d s' d' (rows.reorders later complete reordered) (book.commits xs none opened) = Makes Take (DoesTake s d s' d') s d
 IsCaused s d s' d' (rows.reorders later complete reordered) other = ⊥
 IsCaused s d s' d' (rows.applies number front back both fits applied) (book.applies count all counted) = Makes Commit (DoesCommit s d s' d') s d

@@ -1,5 +1,5 @@
 -- What accepted transactions are to do, however far they are, and the rows with those of some of them.
-use Rattle.std.specs.Prelude.{◌≡◌, ◌↔◌, ℕ, ◌+◌, ◌≤◌, ◌==◌, Bool, true, List, [], ◌∷◌, ◌++◌, map, count_by, Contains}
+use Rattle.std.specs.Prelude.{◌≡◌, ◌↔◌, ℕ, ◌+◌, ◌<◌, ◌≤◌, ◌==◌, Bool, true, List, [], ◌∷◌, ◌++◌, map, None, count_by, Contains}
 use Rattle.std.specs.List.{flat_map, AllByRecursion}
 use Rattle.meta_rows.specs.Prelude.{Rows, rows_after}
 use Rattle.meta_rows.specs.declared.row_op.RowOp.{RowOp}
@@ -10,7 +10,10 @@ use Rattle.unit_allocator.specs.Prelude.{Space, is_idle, holds_of}
 use Rattle.selections.specs.Fair.{IsFair}
 use Rattle.plan_rows.specs.declared.plan.FreshUnit.{FreshUnit}
 use Rattle.plan_rows.specs.declared.plan.Plan.{Plan}
-use Rattle.plan_rows.specs.Prelude.{fresh_units, PlanKeeps}
+use Rattle.plan_rows.specs.Prelude.{fresh_units, AreAtHome, IsAboveBlobs, ChangesBlob, MakesBlob, AreOf, PlanKeeps}
+use Rattle.row_format.specs.Prelude.{shared_key}
+use Rattle.std.specs.FinMap as finite
+use Rattle.unit_fields.specs.declared.width.Width.{Width}
 use Rattle.store_steps.specs.declared.context.Context.{Context}
 
 -- what an accepted transaction is to do
@@ -35,9 +38,9 @@ names_in x = x.coll ∷ []
 abbrev pub is_in : List ℕ → Intent → Bool
 is_in c x = is_named c (names_in x)
 
--- what it was planned to be, but for the old bytes that were read for it
+-- what it was planned to be, but for the old bytes that were read for it and how many blobs it makes
 abbrev pub plan_of : Intent → Plan
-plan_of x = record { ops = x.ops; fresh = x.fresh; released = x.released; read = [] }
+plan_of x = record { ops = x.ops; fresh = x.fresh; released = x.released; read = []; new_blobs = 0 }
 
 -- rows with the operations of intents, one after another
 abbrev pub rows_by : Rows → List Intent → Rows
@@ -74,6 +77,18 @@ pub record AreTakenApart (rows : Rows) (xs : List Intent) : Type 0 where
   pub unmarked : AllByRecursion (λ u. ¬ IsMarked rows u) (taken_by xs)
   pub apart : (unit : ℕ) → count_by (λ u. u == unit) (taken_by xs) ≤ 1
 
+-- Each blob has a home: that of one which shards of the committed rows name is their collection, and that of one whose row an intent changes is
+-- among its collections.
+pub record HaveHomes (w : Width) (rows : Rows) (xs : List Intent) : Type 0 where
+  pub home : ℕ → List ℕ
+  pub named : AreAtHome w home rows
+  pub changed : AllByRecursion (λ x. AreOf home (names_in x) (fresh_units (plan_of x)) x.released x.ops) xs
+
+-- the number is above those of all blobs that have rows, and of those whose rows they change
+pub record AreBlobsBelow (next : ℕ) (rows : Rows) (xs : List Intent) : Type 0 where
+  pub held : IsAboveBlobs next rows
+  pub changed : AllByRecursion (λ x. (sbid : ℕ) → ChangesBlob x.ops sbid → sbid < next) xs
+
 -- a data unit is idle exactly where it isn't busy
 abbrev pub SpaceIsCounted : Super → Rows → List Intent → Space → Type 0
 SpaceIsCounted sup rows xs space = (unit : ℕ) → IsDataUnit sup unit
@@ -88,8 +103,11 @@ holds_in rows unit = 0
 abbrev pub HoldsAreCounted : Super → Rows → Space → Type 0
 HoldsAreCounted sup submitted space = (unit : ℕ) → IsDataUnit sup unit → holds_of space unit ≡ holds_in submitted unit
 
--- A plan over the submitted rows, whose units aren't marked in the committed ones and taken by none.
+-- A plan over the submitted rows, whose units aren't marked in the committed ones and taken by none. The blobs that it makes have no rows among the
+-- committed ones, and none changes such a row.
 pub record CanJoin (sup : Super) (rows : Rows) (xs : List Intent) (x : Intent) : Type 0 where
   pub keeps : PlanKeeps sup (names_in x) (rows_by rows xs) (plan_of x)
   pub unmarked : AllByRecursion (λ u. ¬ IsMarked rows u) (fresh_units (plan_of x))
   pub untaken : AllByRecursion (λ u. ¬ Contains (taken_by xs) u) (fresh_units (plan_of x))
+  pub unmade : (sbid : ℕ) → MakesBlob (rows_by rows xs) x.ops sbid
+      → (finite.get rows (shared_key sbid) ≡ None) × AllByRecursion (λ y. ¬ ChangesBlob y.ops sbid) xs

@@ -16,9 +16,9 @@ pub record Found : Type 0 where
   pub number : ℕ
   pub stale : List UnitRun
 
--- the rows are committed, nothing is under way, and the book is empty
-abbrev pub opened : Found → Space → ℕ → State
-opened f space events = record {
+-- the rows are committed, nothing is under way, the book is empty, and this is the number of the next blob
+abbrev pub opened : Found → Space → ℕ → ℕ → State
+opened f space next events = record {
   log = found_meta f.sup f.rows f.tail f.number f.stale;
   submitted = f.rows;
   pending = [];
@@ -30,4 +30,5 @@ opened f space events = record {
   space = space;
   book = record { entries = []; commits = [] };
   acked = 0;
+  next_sbid = next;
 }

@@ -20,7 +20,7 @@ use Rattle.store_steps.specs.Ready.{check_pieces, applied_count}
 use Rattle.store_steps.specs.Intents.{Intent, intents}
 use Rattle.store_steps.specs.UnderWay.{uncommitted, all_fresh, given_fresh, flush_of, second_flush, begun_ops, submitted_from}
 
--- the rows, committed and submitted, with what makes the one of the other; the free units, and the room in the log
+-- the rows, committed and submitted, with what makes the one of the other; the free units, the room in the log, and the number of the next blob
 pub record RowsPart : Type 0 where
   pub sup : Super
   pub rows : Rows
@@ -29,6 +29,7 @@ pub record RowsPart : Type 0 where
   pub space : Space
   pub tail : ℕ
   pub reserved : ℕ
+  pub next : ℕ
 
 abbrev pub rows_part : State → RowsPart
 rows_part s = record {
@@ -39,6 +40,7 @@ rows_part s = record {
   space = s.space;
   tail = s.log.tail;
   reserved = s.log.reserved;
+  next = s.next_sbid;
 }
 
 -- the fresh units whose writes were submitted, those of the open batch, and how far the flush of these is

@@ -6,7 +6,7 @@ pub use Rattle.store_steps.specs.Ready.{is_empty, is_not_sent, pieces_of, check_
 pub use Rattle.store_steps.specs.Steps.{piece_unit, begun_piece_bytes, DoesData, Takes, DoesReap, units_taken, OpensBatch, OpensCheck, DoesTake, DoesFlush, DoesSeal, DoesRecord, DoesSync, DoesCommit, DoesFinish, IsTarget, DoesCheckWrite, DoesCheckFlush, DoesSlotWrite, DoesSlotFlush, DoesSwitch, Does}
 pub use Rattle.store_steps.specs.Submit.{need_of, free_count, entry_limit, context_of, entered, noted, accepted_with, CanNote, IsReadNow, Accepts, MeetsBadUnit, NeedsRoom, IsCause, Refuses, IsDownBy, IsBookFull}
 pub use Rattle.meta_store.specs.Store.{room_of}
-pub use Rattle.store_steps.specs.Intents.{Intent, intent_of, intents, names_in, is_in, plan_of, rows_by, ops_by, taken_by, released_by, needs_by, IsPlannedOver, EachIsPlanned, AreTakenApart, SpaceIsCounted, HoldsAreCounted, CanJoin}
+pub use Rattle.store_steps.specs.Intents.{Intent, intent_of, intents, names_in, is_in, plan_of, rows_by, ops_by, taken_by, released_by, needs_by, IsPlannedOver, EachIsPlanned, AreTakenApart, HaveHomes, AreBlobsBelow, SpaceIsCounted, HoldsAreCounted, CanJoin}
 unfoldable pub use Rattle.store_steps.specs.Intents.{holds_in}
 pub use Rattle.store_steps.specs.Opened.{Found, opened}
 pub use Rattle.store_steps.specs.UnderWay.{uncommitted, all_fresh, bytes_in, memory_of, given_fresh, flush_of, second_flush, begun_ops, submitted_from}

@@ -8,13 +8,14 @@ use Rattle.store_steps.specs.Intents.{Intent, is_in, ops_by, released_by, needs_
 use Rattle.store_steps.specs.Parts.{RowsPart}
 use Rattle.store_steps.specs.RowsWithin.{rows_units}
 
--- one more is accepted
-abbrev pub with_accepted : Intent → RowsPart → RowsPart
-with_accepted x p = record p {
+-- one more is accepted, which makes so many blobs
+abbrev pub with_accepted : Intent → ℕ → RowsPart → RowsPart
+with_accepted x more p = record p {
   submitted = rows_after p.submitted x.ops;
   intents = p.intents ++ x ∷ [];
   space = taken p.space (map (λ f. f.unit) x.fresh);
   reserved = p.reserved + x.need;
+  next = p.next + more;
 }
 
 -- the first ones are committed, by a record of this number
@@ -35,7 +36,7 @@ rewritten number p = record p { sup = next_super p.sup number; tail = rows_units
 -- than they need and fits behind the tail, or the halves change places.
 pub data RowsGo : RowsPart → RowsPart → Type 0 where
   same : {p q : RowsPart} → q ≡ p → RowsGo p q
-  joins : {p q : RowsPart} (x : Intent) → q ≡ with_accepted x p → RowsGo p q
+  joins : {p q : RowsPart} (x : Intent) (more : ℕ) → q ≡ with_accepted x more p → RowsGo p q
   reorders : {p q : RowsPart} (later : List Intent) → IsComplete is_in p.intents later → q ≡ record p { intents = later } → RowsGo p q
   applies : {p q : RowsPart} (number : ℕ) (front back : List Intent) → p.intents ≡ front ++ back
       → (unit_count number (ops_by front) ≤ needs_by front) × (p.tail + unit_count number (ops_by front) ≤ p.sup.half)

@@ -19,7 +19,7 @@ pub record Batch : Type 0 where
 -- `log` is the committed rows and where the log stands, with the units of it that are reserved for the records of transactions that
 -- aren't committed. `submitted` is the submitted rows: the committed ones with the operations of all contexts. `pending` are the contexts
 -- in no batch, by place. `switching` is there exactly while a checkpoint is, in `log`. `flying` is in the order of the device's flights.
--- `events` counts the device's events since the mount began, `acked` the acknowledged commits.
+-- `events` counts the device's events since the mount began, `acked` the acknowledged commits. `next_sbid` is the number of the next shared blob.
 pub record State : Type 0 where
   pub log : Meta
   pub submitted : Rows
@@ -32,6 +32,7 @@ pub record State : Type 0 where
   pub space : Space
   pub book : Book
   pub acked : ℕ
+  pub next_sbid : ℕ
 
 -- a kernel: its device and its state
 pub record Machine (D : Type 0) : Type 0 where

@@ -62,6 +62,7 @@ accepted_with client line change plan s = noted client line change answer.Accept
   submitted = rows_after s.submitted plan.ops;
   pending = s.pending ++ context_of (length s.book.entries) change s.log plan ∷ [];
   space = taken s.space (map (λ f. f.unit) plan.fresh);
+  next_sbid = s.next_sbid + plan.new_blobs;
 })
 
 -- an answer can be noted: the kernel is up, and the book has room
@@ -78,7 +79,7 @@ pub record Accepts (client line : ℕ) (change : Change) (s : State) (d : Disk) 
   pub can_note : CanNote s
   pub not_refused : IsNotRefused s.submitted (ask.Change change)
   pub plan : Plan
-  pub plans : Plans (width_of s.log.sup) change s.submitted s.space plan
+  pub plans : Plans (width_of s.log.sup) change s.submitted s.space s.next_sbid plan
   pub read : IsReadNow s d (places_of change.ops plans.start) plan
   pub fits : need_of s.log plan ≤ room_of s.log
   pub after : s' ≡ accepted_with client line change plan s
@@ -95,7 +96,7 @@ pub record MeetsBadUnit (change : Change) (s : State) (d : Disk) (unit kept foun
 -- units suffice for it, no place whose old bytes it asks for is bad, and the record of its plan takes so many units of the log
 pub record NeedsRoom (change : Change) (s : State) (d : Disk) (need : ℕ) : Type 0 where
   pub plan : Plan
-  pub plans : Plans (width_of s.log.sup) change s.submitted s.space plan
+  pub plans : Plans (width_of s.log.sup) change s.submitted s.space s.next_sbid plan
   pub read : IsReadNow s d (places_of change.ops plans.start) plan
   pub need_is : need ≡ need_of s.log plan
 

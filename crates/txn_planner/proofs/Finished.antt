@@ -1,5 +1,5 @@
 -- The plan of a transaction of which all operations are planned.
-use Rattle.std.proofs.Common.{◌≡◌, ◌↔◌, ◌⊎◌, Bool, true, false, not, is_some, ℕ, zero, suc, ◌<◌, ◌^◌, List, [], ◌∷◌, length, take, Contains, Option, Some, None, refl, sym, ap, subst, ◌∙◌, arith, inl, inr}
+use Rattle.std.proofs.Common.{◌≡◌, ◌↔◌, ◌⊎◌, Bool, true, false, not, is_some, ℕ, zero, suc, ◌<◌, ◌≤◌, ◌^◌, List, [], ◌∷◌, length, take, Contains, Option, Some, None, refl, sym, ap, subst, ◌∙◌, arith, inl, inr}
 use Rattle.std.specs.Option.{option_map}
 use Rattle.std.specs.List.{AllByRecursion, list_any}
 use Rattle.std.specs.Ordering.{nat_cmp}
@@ -185,7 +185,7 @@ module _ (w : Width) (change : Change) (rows : Rows) (space : Space) (draft : Tx
   -- ---- the plan
 
   -- The parts of a plan: its fresh units are those of the takings on which pages stand, with what they are to hold, its released ones those that
-  -- pages have left and those of slots that no page names any more, and its operations those of the changes of rows.
+  -- pages have left and those of slots that no page names any more, and its operations those of the changes of rows. It makes no blob.
   pub record IsMade (read : List ReadUnit) (plan : Plan) : Type 0 where
     pub read_is : plan.read ≡ read
     pub contents : List (List ℕ)
@@ -200,6 +200,7 @@ module _ (w : Width) (change : Change) (rows : Rows) (space : Space) (draft : Tx
     pub changes : ChangeMap
     pub are_changes : IsChangesOf w rows change p draft.units.items (held_in contents) changes
     pub ops : AreRowOps rows changes (fresh_units plan) plan.released plan.ops
+    pub none_made : plan.new_blobs ≡ 0
 
   module _ (read : List ReadUnit) (at : AreReadAt (places_in draft) read) (plan : Plan) (m : IsMade read plan) where
     units_are : draft.units.items ≡ take y.taken (free_units space)
@@ -250,8 +251,8 @@ module _ (w : Width) (change : Change) (rows : Rows) (space : Space) (draft : Tx
         turns = m.ops.turns;
       }
 
-      abbrev plans_so : Plans w change rows space plan
-      plans_so = record {
+      abbrev plans_so : (next : ℕ) → next ≤ 2 ^ 62 → Plans w change rows space next plan
+      plans_so next low = record {
         named = is.coll;
         small = is.small;
         layouts = layouts;
@@ -263,7 +264,9 @@ module _ (w : Width) (change : Change) (rows : Rows) (space : Space) (draft : Tx
         makes = subst (λ (units : List ℕ). MakesDraft w rows c layouts units (held_by plan.read change.ops start none_held) y plan) units_are
             (subst (λ (held : Held). MakesDraft w rows c layouts draft.units.items held y plan) held_are makes);
         csums_fit = m.csums;
+        none_made = m.none_made;
+        low = omega (arith, low, m.none_made);
       }
 
     pub is_plan : IsPlanFor w change rows space (places_in draft) plan
-    is_plan = record { not_refused = is.not_refused; plans = λ s wide free. (plans_so s wide free, places_are) }
+    is_plan = record { not_refused = is.not_refused; plans = λ s next wide free low. (plans_so s wide free next low, places_are) }

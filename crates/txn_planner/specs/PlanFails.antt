@@ -1,5 +1,5 @@
 -- What planning answers: a plan of a transaction that the rows take, or why there is none.
-use Rattle.std.specs.Prelude.{◌≡◌, ◌<◌, List}
+use Rattle.std.specs.Prelude.{◌≡◌, ℕ, ◌<◌, ◌≤◌, ◌^◌, List}
 use Rattle.unit_fields.specs.declared.width.Width.{Width}
 use Rattle.object_model.specs.Prelude.{Change}
 use Rattle.object_model.specs.declared.command.Command.TheVariants as ask
@@ -23,11 +23,11 @@ plan_fail_of (take.NoSpace need free) = fail.NoSpace need free
 plan_fail_of take.Memory = fail.Memory
 
 -- Plain objects of the rows' shape don't refuse the transaction. This is its plan, over the old bytes of these places, where no row is bad and the
--- free units are owned by nobody: then its operations are the difference of the rows.
+-- free units are owned by nobody, whatever the next number of a blob is: then its operations are the difference of the rows.
 pub record IsPlanFor (w : Width) (change : Change) (rows : Rows) (space : Space) (places : List PageUnit) (plan : Plan) : Type 0 where
   pub not_refused : IsNotRefused rows (ask.Change change)
-  pub plans : (s : Super) → width_of s ≡ w → AreFreeOver s rows space
-      → (plans : Plans w change rows space plan) × (places ≡ places_of change.ops plans.start)
+  pub plans : (s : Super) (next : ℕ) → width_of s ≡ w → AreFreeOver s rows space → next ≤ 2 ^ 62
+      → (plans : Plans w change rows space next plan) × (places ≡ places_of change.ops plans.start)
 
 -- why there is no plan; want of memory comes of nothing that a clause sees
 abbrev pub IsPlanFail : Width → Change → Rows → Space → PlanFail → Type 0

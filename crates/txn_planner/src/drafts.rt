@@ -45,7 +45,7 @@ impl TxnDraft {
     ///
     /// Each page that the transaction put takes the free unit of its taking, and the units are released that pages have left: those of objects'
     /// own, and those of slots that no page names any more. The bits of all these in the freelist are turned by the last operations. The
-    /// bytes of whole pages aren't copied.
+    /// bytes of whole pages aren't copied. It makes no blob.
     pub fn finish(
         self,
         alloc: Global,
@@ -89,6 +89,7 @@ impl TxnDraft {
             fresh,
             released,
             read,
+            new_blobs: 0,
         })
     }
 }

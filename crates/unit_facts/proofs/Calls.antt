@@ -123,11 +123,11 @@ call_keeps call base s s' d d' h h' kept up known made told =
 
 -- ---- a store that was just opened
 
-pub opened_known : (base : ℕ) (f : Found) (recs : List (List RowOp)) (space : Space) (events : ℕ) (d : Disk) (h : History) → d.history ≡ Some h
+pub opened_known : (base : ℕ) (f : Found) (recs : List (List RowOp)) (space : Space) (next events : ℕ) (d : Disk) (h : History) → d.history ≡ Some h
     → d.flights ≡ [] → IsAnsweredSince base h [] events → ((unit : ℕ) → IsClean h.log unit) → SlotsStand h f.sup
     → OtherHalfRests h f.sup (in_runs f.stale) → ActiveHalfStands h f.sup f.rows f.tail f.number None 0 not_sent recs
-    → KnownOfUnits base (opened f space events) d h
-opened_known base f recs space events d h told none answered clean slots rests half = record {
+    → KnownOfUnits base (opened f space next events) d h
+opened_known base f recs space next events d h told none answered clean slots rests half = record {
   told = told;
   answered = subst (λ (l : List Flight). IsAnsweredSince base h l events) (sym none) answered;
   other = (slots, rests);

@@ -13,11 +13,11 @@ ghost use Rattle.unit_facts.specs.Known.{IsAnsweredSince, KnownOfUnits, KnowsUni
 /// A device without a dirty unit, where nothing is in flight and all events since a quiet moment are counted, is known from its slots,
 /// from the records in the active half, with zeros behind them, and from the other half, which is zero where it isn't listed as stale.
 pub fn a_found_device_is_known()
-    ensures { (base : ℕ) (f : Found) (recs : List (List RowOp)) (space : Space) (events : ℕ) (d : Disk) (h : History) →
+    ensures { (base : ℕ) (f : Found) (recs : List (List RowOp)) (space : Space) (next events : ℕ) (d : Disk) (h : History) →
         d.history ≡ Some h → d.flights ≡ [] → IsAnsweredSince base h [] events → ((unit : ℕ) → IsClean h.log unit) →
         SlotsStand h f.sup → OtherHalfRests h f.sup (in_runs f.stale) →
         ActiveHalfStands h f.sup f.rows f.tail f.number None 0 not_sent recs →
-        KnownOfUnits base (opened f space events) d h }
+        KnownOfUnits base (opened f space next events) d h }
 {}
 
 /// Each call of a kernel that keeps its facts leaves the device known, where the kernel is up behind it: by the history that

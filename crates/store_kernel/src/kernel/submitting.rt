@@ -154,6 +154,7 @@ impl<D: Device> Kernel<D> {
         }
         let place = self.entries.len() as u32;
         let need = ready.need;
+        let new_blobs = ready.plan.new_blobs;
         let (context, copy) = ready.split(place);
         let Ok(()) = enter(alloc, &mut self.contexts, &mut self.buffers, context) else {
             drop(copy);
@@ -167,6 +168,7 @@ impl<D: Device> Kernel<D> {
             unreachable!();
         };
         take_fresh(&mut self.space, added.fresh());
+        self.next_sbid += new_blobs;
         self.entries.push_reserved(Entry {
             client,
             line,

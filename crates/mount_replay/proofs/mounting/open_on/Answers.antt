@@ -33,9 +33,9 @@ open-kernel-requires-clause-kept g c =
     let old = disk c.args.dev in
     let now = disk c.clear_log.new.dev in
     let cleared = c.in-Ok.ensures in
-    subst (λ (m : Meta). IsKept (opened (found_of m) c.args.space c.in-Ok.events) now) (sym c.open-meta.ensures)
-    (opened_kept c.args.found old c.requires.sound c.requires.found c.requires.judged.good c.args.stale.items c.requires.stale c.args.space
-    c.in-Ok.events now cleared.later.sound cleared.later.idle cleared.later.units cleared.few c.requires.judged)
+    subst (λ (m : Meta). IsKept (opened (found_of m) c.args.space c.args.next_sbid c.in-Ok.events) now) (sym c.open-meta.ensures)
+    (opened_kept c.args.found old c.requires.sound c.requires.found c.requires.judged.good c.args.stale.items c.requires.stale c.args.space c.args.next_sbid
+    c.in-Ok.events now cleared.later.sound cleared.later.idle cleared.later.units cleared.few c.requires.judged c.requires.next)
 
 pub open-kernel-requires-clause-durable : goal.open-kernel-requires-clause-durable
 open-kernel-requires-clause-durable g c =
@@ -43,8 +43,8 @@ open-kernel-requires-clause-durable g c =
     let old = disk c.args.dev in
     let now = disk c.clear_log.new.dev in
     let cleared = c.in-Ok.ensures in
-    subst (λ (m : Meta). KeepsDurable (opened (found_of m) c.args.space c.in-Ok.events) now) (sym c.open-meta.ensures)
-    (opened_durable c.args.found old c.requires.sound c.requires.found c.requires.judged.good c.args.stale.items c.requires.stale c.args.space
+    subst (λ (m : Meta). KeepsDurable (opened (found_of m) c.args.space c.args.next_sbid c.in-Ok.events) now) (sym c.open-meta.ensures)
+    (opened_durable c.args.found old c.requires.sound c.requires.found c.requires.judged.good c.args.stale.items c.requires.stale c.args.space c.args.next_sbid
     c.in-Ok.events now cleared.later.idle (cleared.only c.requires.found.half c.requires.found.stale) (cleared.cleared c.requires.found.half c.requires.found.stale))
 
 pub returns-clause-ok : goal.returns-clause-ok
@@ -53,10 +53,10 @@ returns-clause-ok g c =
     let old = disk c.args.dev in
     let now = disk c.clear_log.new.dev in
     let cleared = c.in-Ok.ensures in
-    let state = c.open-kernel.ensures.state ∙ ap (λ (m : Meta). opened (found_of m) c.args.space c.in-Ok.events) c.open-meta.ensures in
+    let state = c.open-kernel.ensures.state ∙ ap (λ (m : Meta). opened (found_of m) c.args.space c.args.next_sbid c.in-Ok.events) c.open-meta.ensures in
     subst (λ (d : Disk). IsOpenedOn old (with_stale c.args.found c.args.stale.items) c.args.space d c.open-kernel.result.state) (sym (ap disk c.open-kernel.ensures.device))
-    (opened_on c.args.found old c.requires.sound c.requires.found c.requires.judged.good c.args.stale.items c.requires.stale c.args.space
-    c.in-Ok.events now c.open-kernel.result.state c.requires.judged cleared.later (cleared.only c.requires.found.half c.requires.found.stale)
+    (opened_on c.args.found old c.requires.sound c.requires.found c.requires.judged.good c.args.stale.items c.requires.stale c.args.space c.args.next_sbid
+    c.in-Ok.events now c.open-kernel.result.state c.requires.judged c.requires.next cleared.later (cleared.only c.requires.found.half c.requires.found.stale)
     (cleared.cleared c.requires.found.half c.requires.found.stale) state)
 
 pub returns-clause-durable : goal.returns-clause-durable

@@ -11,4 +11,4 @@ pub returns-clause-onward : goal.returns-clause-onward
 returns-clause-onward c = agree_onward
 
 pub returns-clause-plans : goal.returns-clause-plans
-returns-clause-plans c = λ s names view other plan agree keeps. keeps_over s names view other plan agree keeps
+returns-clause-plans c = λ s names view other plan agree blobs keeps. keeps_over s names view other plan agree blobs keeps

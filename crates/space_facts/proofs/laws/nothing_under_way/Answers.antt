@@ -1,4 +1,5 @@
-use Rattle.space_facts.proofs.Moving.{each_none, apart_none}
+use Rattle.space_facts.proofs.Making.{below_none}
+use Rattle.space_facts.proofs.Moving.{each_none, apart_none, homes_none}
 use Rattle.space_facts.proofs.Spaces.{counted_none}
 use Rattle.space_facts.proofs.laws.nothing_under_way.Goals as goal
 
@@ -10,3 +11,9 @@ returns-clause-apart c = apart_none
 
 pub returns-clause-counted : goal.returns-clause-counted
 returns-clause-counted c = counted_none
+
+pub returns-clause-homes : goal.returns-clause-homes
+returns-clause-homes c = homes_none
+
+pub returns-clause-blobs : goal.returns-clause-blobs
+returns-clause-blobs c = below_none

@@ -1,4 +1,4 @@
-use Rattle.space_facts.proofs.Moving.{first_taken, each_alike, rows_alike, apart_alike}
+use Rattle.space_facts.proofs.Moving.{first_taken, each_alike, rows_alike, apart_alike, homes_alike, below_alike}
 use Rattle.space_facts.proofs.Spaces.{counted_alike}
 use Rattle.space_facts.proofs.laws.order_between_collections.Goals as goal
 
@@ -16,3 +16,9 @@ returns-clause-apart c = apart_alike
 
 pub returns-clause-counted : goal.returns-clause-counted
 returns-clause-counted c = counted_alike
+
+pub returns-clause-homes : goal.returns-clause-homes
+returns-clause-homes c = homes_alike
+
+pub returns-clause-blobs : goal.returns-clause-blobs
+returns-clause-blobs c = below_alike

@@ -8,4 +8,4 @@ pub returns-clause-exact : goal.returns-clause-exact
 returns-clause-exact c = λ sup rows xs some good each fair. selection_exact sup rows xs good each some fair
 
 pub returns-clause-leaked : goal.returns-clause-leaked
-returns-clause-leaked c = λ sup rows xs some unit good each fair leaked. selection_leaked sup rows xs good each unit leaked some fair
+returns-clause-leaked c = λ sup rows xs some unit good each homes fair leaked. selection_leaked sup rows xs good each homes unit leaked some fair

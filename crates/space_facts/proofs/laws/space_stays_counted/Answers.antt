@@ -5,5 +5,5 @@ pub returns-clause-submitted : goal.returns-clause-submitted
 returns-clause-submitted c = counted_joined
 
 pub returns-clause-committed : goal.returns-clause-committed
-returns-clause-committed c = λ sup rows batch pending space limits good each apart has counted.
-    counted_committed sup rows batch pending good each apart limits space has counted
+returns-clause-committed c = λ sup rows batch pending space limits good each apart homes has counted.
+    counted_committed sup rows batch pending good each apart homes limits space has counted

@@ -1,4 +1,4 @@
-use Rattle.std.proofs.Common.{◌≡◌, List, length, map, ap, sym, ◌∙◌, rules}
+use Rattle.std.proofs.Common.{◌≡◌, List, length, map, refl, ap, sym, ◌∙◌, rules}
 use Rattle.plan_rows.specs.declared.plan.FreshUnit.{FreshUnit}
 use Rattle.store_steps.specs.declared.context.Context.{Context}
 use Rattle.unit_allocator.specs.Prelude.{taken}
@@ -82,13 +82,13 @@ invariant_of-self-2 g c =
     found_added _ _ c.enter.new.contexts x c.in-Some.added.now c.len-place.result c.self.invariant.kept can entry place c.in-Ok.ensures.waits c.in-Some.ensures in
     let space = c.take_fresh.ensures ∙ ap (λ (fs : List FreshUnit). taken k.space (map (λ (f : FreshUnit). f.unit) fs)) (c.fresh.ensures ∙ ap (λ (y : Context). y.fresh) added) in
     let fresh = ap (λ (y : Context). y.fresh) c.split-context.ensures.context in
-    let is = accepted_state k.meta k.submitted.rows k.contexts k.batch k.switching k.flying.items k.down k.events k.space k.entries.items k.commits.items k.acked
+    let is = accepted_state k.meta k.submitted.rows k.contexts k.batch k.switching k.flying.items k.down k.events k.space k.entries.items k.commits.items k.acked k.next_sbid
     c.args.client c.args.line c.args.txn c.args.ready (g.D.Device.disk k.device) c.reserve-2.new.self c.apply.new.self.rows c.enter.new.contexts x c.len-place.result c.take_fresh.new.space
-    c.push_reserved.new.self.items can prepared c.in-Ok-reserve.ensures.set_aside (cc) c.in-Ok.ensures.waits c.split-context.ensures.context entry space (cc) in
+    c.push_reserved.new.self.items can prepared c.in-Ok-reserve.ensures.set_aside (cc) c.in-Ok.ensures.waits c.split-context.ensures.context entry space _ refl (cc) in
     known_accept _ _ _ _ _ _ c.args.client c.args.line c.args.txn c.self.invariant c.requires.known
-    (accepted k.meta k.submitted.rows k.contexts k.batch k.switching k.flying.items k.down k.events k.space k.entries.items k.commits.items k.acked
+    (accepted k.meta k.submitted.rows k.contexts k.batch k.switching k.flying.items k.down k.events k.space k.entries.items k.commits.items k.acked k.next_sbid
     c.args.client c.args.line c.args.txn c.args.ready (g.D.Device.disk k.device) c.reserve-2.new.self c.apply.new.self.rows c.enter.new.contexts x c.len-place.result c.take_fresh.new.space
-    c.push_reserved.new.self.items can prepared c.in-Ok-reserve.ensures.set_aside (cc) c.in-Ok.ensures.waits c.split-context.ensures.context entry space (cc))
+    c.push_reserved.new.self.items can prepared c.in-Ok-reserve.ensures.set_aside (cc) c.in-Ok.ensures.waits c.split-context.ensures.context entry space _ refl (cc))
     (accept_memory _ _ c.args.client c.args.line c.args.txn c.args.ready.plan x (memory_in k.buffers) (memory_in c.enter.new.buffers) is fresh
     c.self.invariant.memory c.in-Ok.ensures.found)
 
@@ -104,6 +104,6 @@ returns-clause-accepted g c =
     found_added _ _ c.enter.new.contexts x c.in-Some.added.now c.len-place.result c.self.invariant.kept can entry place c.in-Ok.ensures.waits c.in-Some.ensures in
     let space = c.take_fresh.ensures ∙ ap (λ (fs : List FreshUnit). taken k.space (map (λ (f : FreshUnit). f.unit) fs)) (c.fresh.ensures ∙ ap (λ (y : Context). y.fresh) added) in
     rw (← c.self.view_is)
-    (accepted k.meta k.submitted.rows k.contexts k.batch k.switching k.flying.items k.down k.events k.space k.entries.items k.commits.items k.acked
+    (accepted k.meta k.submitted.rows k.contexts k.batch k.switching k.flying.items k.down k.events k.space k.entries.items k.commits.items k.acked k.next_sbid
     c.args.client c.args.line c.args.txn c.args.ready (g.D.Device.disk k.device) c.reserve-2.new.self c.apply.new.self.rows c.enter.new.contexts x c.len-place.result c.take_fresh.new.space
-    c.push_reserved.new.self.items can prepared c.in-Ok-reserve.ensures.set_aside (cc) c.in-Ok.ensures.waits c.split-context.ensures.context entry space (cc))
+    c.push_reserved.new.self.items can prepared c.in-Ok-reserve.ensures.set_aside (cc) c.in-Ok.ensures.waits c.split-context.ensures.context entry space _ refl (cc))

@@ -31,7 +31,7 @@ invariant_of-self g c =
     let does = seal_does _ _ k.meta c.seal.new.meta c.in-Some.open c.in-Ok.sealed (ap (option_map batch_of) batch) refl
     (c.in-Ok.ensures.begun ∙ ap (λ (xs : List Context). with_begun k.meta (ops_of_batch xs)) (sym taken)) (c.in-Ok.ensures.same ∙ sym taken) in
     subst (λ (o : Option OpenBatch). KnownOfKernel k.buffers o
-    (state_of c.seal.new.meta k.submitted.rows k.contexts o k.switching k.flying.items k.down k.events k.space k.entries.items k.commits.items k.acked)
+    (state_of c.seal.new.meta k.submitted.rows k.contexts o k.switching k.flying.items k.down k.events k.space k.entries.items k.commits.items k.acked k.next_sbid)
     (g.D.Device.disk k.device)) (sym c.replace.ensures.after)
     (known_step Seal _ _ _ _ _ _ _ _ c.self.invariant ready does c.self.invariant.kept.always.device
     (sym (ap (λ (m : Meta). is_some m.begun) c.in-Ok.ensures.begun)) (c.self.invariant.memory ∙ sym (seal_memory _ _ _ _ does)))
@@ -45,5 +45,5 @@ invariant_of-self-in-Err g c =
     (c.in-Taken.is ∙ ap Taken (sym c.in-Err.ensures.back)) in
     rw c.in-Err.ensures.err
     (subst (λ (o : Option OpenBatch). KnownOfKernel k.buffers o
-    (state_of k.meta k.submitted.rows k.contexts o k.switching k.flying.items k.down k.events k.space k.entries.items k.commits.items k.acked)
+    (state_of k.meta k.submitted.rows k.contexts o k.switching k.flying.items k.down k.events k.space k.entries.items k.commits.items k.acked k.next_sbid)
     (g.D.Device.disk k.device)) (same ∙ sym c.replace-in-Err.ensures.after) c.self.invariant)

@@ -101,7 +101,7 @@ returns-clause-ok c =
     let released : List ℕ = c.in_ok-released.released in
     let ops : List RowOp = c.in_ok-ops.ops in
     is_plan w change rows c.args.space.now draft c.requires.good c.requires.draft c.args.read c.requires.read
-    (record { ops = ops; fresh = fresh; released = released; read = c.args.read })
+    (record { ops = ops; fresh = fresh; released = released; read = c.args.read; new_blobs = 0 })
     (record {
       read_is = refl;
       contents = contents;
@@ -128,4 +128,5 @@ returns-clause-ok c =
       ops = subst (λ (l : List ℕ). AreRowOps rows c.in_ok-changes.changes (map (λ (f : FreshUnit). f.unit) fresh) l ops) c.as_slice-6.ensures
           (subst (λ (l : List FreshUnit). AreRowOps rows c.in_ok-changes.changes (map (λ (f : FreshUnit). f.unit) l) c.as_slice-6.result.now ops)
           c.as_slice-5.ensures c.in_ok-ops.ensures);
+      none_made = refl;
     })

@@ -1,5 +1,5 @@
 -- A kernel is opened on the store that was found, or the device comes back.
-use Rattle.std.proofs.Common.{◌≡◌, ℕ, ◌+◌, ◌*◌, ◌<◌, ◌≤◌, List, [], length, take, drop, Option, Some, None, refl, sym, ap, subst, ◌∙◌, arith}
+use Rattle.std.proofs.Common.{◌≡◌, ℕ, ◌+◌, ◌*◌, ◌^◌, ◌<◌, ◌≤◌, List, [], length, take, drop, Option, Some, None, refl, sym, ap, subst, ◌∙◌, arith}
 use Rattle.std.specs.Prelude.{IfSome, All, Contains}
 use Rattle.std.proofs.lemmas.List.{take_at}
 use Rattle.byte_maps.specs.Units.{IsUnits}
@@ -11,13 +11,13 @@ use Rattle.store_image.specs.Prelude.{StandsFor, IsStart, EachCutStands}
 use Rattle.log_facts.specs.Prelude.{OtherHalfRests}
 use Rattle.unit_allocator.specs.Prelude.{Space}
 use Rattle.store_steps.specs.Prelude.{State, Found, opened}
-use Rattle.plan_rows.specs.Prelude.{IsGood}
+use Rattle.plan_rows.specs.Prelude.{IsGood, IsAboveBlobs}
 use Rattle.space_facts.proofs.Prelude.{counted_none}
 use Rattle.run_facts.specs.Prelude.{IsOpenable, IsKept}
 use Rattle.run_facts.proofs.Prelude.{kept_open}
 use Rattle.crash_facts.specs.Store.{KeepsDurable, IsMounted}
 use Rattle.crash_facts.proofs.Keeping.{mounted_keeps}
-use Rattle.log_replay.specs.Prelude.{Told, IsLater, IsAllClean, AreClearing, IsCleared, ClearsSoFar, IsAbout, IsFoundIn, IsNextBlob, first, behind, IsMountRefused, IsUnopenable, FailsMount, IsFoundOn, IsJudged, as_found, first_behind, half_end, rest_of, AreStaleOf, IsLogCleared, ClearsLog, AreZeroOutside, AreRunsOn}
+use Rattle.log_replay.specs.Prelude.{Told, IsLater, IsAllClean, AreClearing, IsCleared, ClearsSoFar, IsAbout, IsFoundIn, HasLowNumbers, IsNextBlob, first, behind, IsMountRefused, IsUnopenable, FailsMount, IsFoundOn, IsJudged, as_found, first_behind, half_end, rest_of, AreStaleOf, IsLogCleared, ClearsLog, AreZeroOutside, AreRunsOn}
 use Rattle.mount_replay.specs.Mounting.{with_stale, IsStaleIn, behind_records, WasOpened, IsOpenedOn, MountStaysDurable}
 use Rattle.log_replay.specs.declared.opening.MountFail.{MountFail}
 use Rattle.log_replay.specs.declared.opening.MountFail.TheVariants.{Memory, NoSuper, BadRow, NotExact, WornOut, Fault}
